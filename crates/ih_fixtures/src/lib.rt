@@ -2,11 +2,13 @@
 //! test owns a ward.
 #![tactic(auto)]
 
+mod bills;
 mod small;
 mod starts;
 mod texts;
 mod two;
 
+pub use bills::is_dearer_by;
 pub use small::on_one_room;
 pub use starts::{at, first_day, on_first_admitted};
 pub use texts::{TWO_PATIENTS, WARD};

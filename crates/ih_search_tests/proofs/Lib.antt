@@ -1,2 +1,3 @@
+mod Desks
 mod TriedLists
 mod TwoNumbers

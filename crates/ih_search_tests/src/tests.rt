@@ -2,9 +2,12 @@
 
 mod cellbook;
 mod chains;
+mod desk;
 mod freezing;
+mod histories;
 mod replay;
 mod rounds;
 mod snapshot;
 mod steps;
 mod turn;
+mod workers;

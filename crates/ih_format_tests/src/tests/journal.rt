@@ -112,20 +112,20 @@ fn headings_read(rt: HostRuntime) {
     );
 }
 
-fn line_is(alloc: Global, options: &Options, place: u32, e: &Entry, wanted: &str) -> bool
-    requires { IsWithin (10 ^ 11) e.now.price }
+fn line_is(alloc: Global, options: &Options, place: u32, entry: &Entry, wanted: &str) -> bool
+    requires { IsWithin (10 ^ 11) entry.now.price }
 {
     let mut out = Vec::new(alloc);
-    line(options, place, e, &mut out).is_ok() && out.as_slice() == wanted.as_bytes()
+    line(options, place, entry, &mut out).is_ok() && out.as_slice() == wanted.as_bytes()
 }
 
-fn place(p: u32, day: u32, room: u32, theatre: u32) -> Move {
+fn place(patient: u32, day: u32, room: u32, theatre: u32) -> Move {
     let at = Placement {
         day: Day(day),
         room: RoomNo(room),
         theatre: TheatreNo(theatre),
     };
-    Move::Place(PatientNo(p), at)
+    Move::Place(PatientNo(patient), at)
 }
 
 const FIRST: Entry = Entry {

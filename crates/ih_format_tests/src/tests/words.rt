@@ -1,7 +1,7 @@
 //! Examples of the public calls, with ample memory.
 use crate::tests::rows::each_row;
 use ih_journal::Options;
-use ih_words::{Chains, Command, Replay, Solve, WordsError, read_words};
+use ih_words::{Advise, Chains, Command, Replay, Rounds, Solve, WordsError, read_words};
 use std::alloc::{AllocError, Global};
 
 // The words of a line.
@@ -57,11 +57,37 @@ fn is_salvage(salvage: &Replay<'_>) -> bool {
         && !salvage.start.fill
 }
 
+// Whether each search of the call has these options, and each is one of sixteen.
+fn is_rounds(rounds: &Rounds<'_>) -> bool {
+    let wanted = Options {
+        seed: 18_446_744_073_709_551_615,
+        workers: 64,
+        moves: 976,
+        heat: 0,
+        hard: 1000,
+        retries: 0,
+    };
+    let search = &rounds.search;
+    rounds.rounds == 16
+        && (search.instance, search.out, search.journal) == ("i", "o", "j")
+        && search.options == wanted
+        && search.start.file == Some("s")
+        && search.start.fill
+        && search.start.freeze == 0
+}
+
+fn is_advise(advise: &Advise<'_>) -> bool {
+    (advise.instance, advise.solution) == ("i", "s")
+        && (advise.hard, advise.workers) == (1_000_000, 64)
+}
+
 // The name of a command that has the values of its line below.
 fn told(command: &Command<'_>) -> Option<&'static str> {
     match command {
         Command::Solve(solve) if is_solve(solve) => Some("solve"),
         Command::Chain(chain) if is_chain(chain) => Some("chain"),
+        Command::Rounds(rounds) if is_rounds(rounds) => Some("rounds"),
+        Command::Advise(advise) if is_advise(advise) => Some("advise"),
         Command::Check(check) if check.instance == "i" && check.solution == "s" => Some("check"),
         Command::Replay(replay) if is_replay(replay) => Some("replay"),
         Command::Salvage(salvage) if is_salvage(salvage) => Some("salvage"),
@@ -75,6 +101,8 @@ fn told(command: &Command<'_>) -> Option<&'static str> {
 const LINES: &str = "
 solve i --seed=+007 o j --workers 64 --moves 1953 --heat 50 --hard 1000000 --start s --freeze=56 --retries 7
 chain i o --length=8 j --seed 7 --workers 50 --moves 2500 --heat 50 --hard 1000 --fill
+rounds i --rounds=16 o j --seed 18446744073709551615 --workers 64 --moves 976 --heat 0 --hard 1000 --fill --start s
+advise --hard=1000000 i s --workers 64
 check i s
 replay i --fill j o
 salvage i j o --start=s

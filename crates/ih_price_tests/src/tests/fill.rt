@@ -19,17 +19,17 @@ fn filled(alloc: Global, inst: &Instance) -> Result<Plan, AllocError>
 }
 
 // Whether a patient is in this room from this day on, with surgery in the first theatre.
-fn is_placed(inst: &Instance, plan: &Plan, p: u32, day: u32, room: u32) -> bool
+fn is_placed(inst: &Instance, plan: &Plan, patient: u32, day: u32, room: u32) -> bool
     requires { IsPlanOf inst.now.draft plan.now }
 {
-    p < inst.patients() && plan.stay(PatientNo(p)) == Some(at(day, room, 0))
+    patient < inst.patients() && plan.stay(PatientNo(patient)) == Some(at(day, room, 0))
 }
 
 // Whether a patient isn't admitted.
-fn is_out(inst: &Instance, plan: &Plan, p: u32) -> bool
+fn is_out(inst: &Instance, plan: &Plan, patient: u32) -> bool
     requires { IsPlanOf inst.now.draft plan.now }
 {
-    p < inst.patients() && plan.stay(PatientNo(p)).is_none()
+    patient < inst.patients() && plan.stay(PatientNo(patient)).is_none()
 }
 
 // A nurse's digit, or a dot for none.
@@ -43,15 +43,15 @@ fn digit(nurse: Option<NurseNo>) -> char {
 }
 
 // Whether a room has these nurses, shift by shift.
-fn has_nurses(inst: &Instance, plan: &Plan, r: u32, wanted: &str) -> bool
+fn has_nurses(inst: &Instance, plan: &Plan, room: u32, wanted: &str) -> bool
     requires { IsPlanOf inst.now.draft plan.now }
 {
-    if r >= inst.rooms() {
+    if room >= inst.rooms() {
         return false;
     }
     let mut digits = wanted.chars();
     for k in 0..inst.shifts() {
-        if digits.next() != Some(digit(plan.care(RoomNo(r), Shift(k)))) {
+        if digits.next() != Some(digit(plan.care(RoomNo(room), Shift(k)))) {
             return false;
         }
     }

@@ -15,11 +15,11 @@ use ih_tables::{Cell, Day, Instance, NurseNo, PatientNo, PersonNo, RoomNo, Shift
 use std::alloc::Global;
 
 // The number is the cell's, and the cell the number's.
-fn are_paired(numbering: &Numbering, n: u32, c: Cell) -> bool
-    requires { n < count_in numbering.now }
+fn are_paired(numbering: &Numbering, number: u32, cell: Cell) -> bool
+    requires { number < count_in numbering.now }
 {
-    let found = numbering.cell(n);
-    found == c && numbering.number(found) == n
+    let found = numbering.cell(number);
+    found == cell && numbering.number(found) == number
 }
 
 // A cell comes once however often it is added, they ascend once they are settled, and a cleared list takes them

@@ -13,7 +13,7 @@ use ih_tables::{Day, Instance, PatientNo, RoomNo};
 use std::alloc::Global;
 
 // Whether two persons are in the first room on the first day, and just these, in any order.
-fn are_there(ledger: &RoomDays, x: u32, y: u32) -> bool
+fn are_there(ledger: &RoomDays, person: u32, other: u32) -> bool
     requires rooms { 0 < ledger.now.rooms }
     requires days { 0 < ledger.now.days }
 {
@@ -21,7 +21,7 @@ fn are_there(ledger: &RoomDays, x: u32, y: u32) -> bool
     if count == 2 {
         let a = ledger.member(RoomNo(0), Day(0), 0);
         let b = ledger.member(RoomNo(0), Day(0), 1);
-        (a.0 == x && b.0 == y) || (a.0 == y && b.0 == x)
+        (a.0 == person && b.0 == other) || (a.0 == other && b.0 == person)
     } else {
         false
     }

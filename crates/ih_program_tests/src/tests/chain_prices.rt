@@ -5,7 +5,7 @@ ghost use Rattle.ih_plan.specs.{Series.AreMoves, Timetable.IsPlanOf};
 ghost use Rattle.ih_chain.specs.Entries.{chain_tries};
 
 use ih_chain::{ChainEntry, run_chains};
-use ih_fixtures::TWO_PATIENTS;
+use ih_fixtures::{TWO_PATIENTS, is_dearer_by};
 use ih_history::plan_at;
 use ih_instance::read_instance;
 use ih_journal::{Options, Verdict};
@@ -27,24 +27,6 @@ const OPTIONS: Options = Options {
     hard: 1_000,
     retries: 0,
 };
-
-// Whether each number is the sum of both.
-fn are_sums(sums: &[i64], first: &[i64], second: &[i64]) -> bool {
-    if first.len() != sums.len() || second.len() != sums.len() {
-        return false;
-    }
-    for k in 0..sums.len() {
-        if sums[k] != first[k].wrapping_add(second[k]) {
-            return false;
-        }
-    }
-    true
-}
-
-// Whether one bill is the other and this price.
-fn is_dearer_by(after: &Bill, before: &Bill, price: &Bill) -> bool {
-    are_sums(&after.v, &before.v, &price.v) && are_sums(&after.s, &before.s, &price.s)
-}
 
 // What the entry changed.
 fn change_of(entry: &ChainEntry) -> Bill {

@@ -1,7 +1,8 @@
 //! Whole calls that read journals, generate instances or start from a fill, over files in memory.
 
-use crate::tests::program::{all_go, goes};
+use crate::tests::program::{all_go, exits_past, goes};
 use ih_fixtures::{TWO_PATIENTS, WARD};
+use ih_gen::generate;
 use ih_journal::{JournalRefusal, Reason};
 use ih_scripts::Event;
 use ih_scripts::Event::{Change, CutOff, Ends, FailRead, FailWrite, Holds, Same, Store};
@@ -9,6 +10,7 @@ use ih_scripts::examples::{
     COVERED_SOLUTION, DEMO, FILLED, FOUND, JOURNAL, NO_MOVES, NOTHING, ONE_ADMITTED, SALVAGED,
     SEARCH,
 };
+use ih_shelf::{MemShelf, MemSink, OpenGate};
 use ih_top::{Role, Status};
 use std::alloc::Global;
 use std::rt::Files;
@@ -441,6 +443,33 @@ const GENERATIONS: [&[Event<'static>]; 2] = [&GENERATES, &CANNOT_GENERATE];
 #[test]
 fn generates(rt: HostRuntime) {
     assert!(rt; all_go(&rt, rt.alloc(), &GENERATIONS));
+}
+
+// Whether the shelf has the instance of the number 7.
+fn has_seven(alloc: Global, shelf: &MemShelf) -> bool {
+    match generate(alloc, 7) {
+        Ok(text) => shelf.get("o") == Some(text.as_slice()),
+        Err(_) => false,
+    }
+}
+
+fn leaves_seven<R: Files + Print + Threads + Wait + Sync>(rt: &R, alloc: Global) -> bool {
+    let mut shelf = MemShelf::new(alloc);
+    let mut out = MemSink::new(alloc);
+    exits_past(
+        rt,
+        alloc,
+        "gen 7 o",
+        &mut shelf,
+        &mut out,
+        &OpenGate,
+        Status::Done,
+    ) && has_seven(alloc, &shelf)
+}
+
+#[test]
+fn seven_is_written(rt: HostRuntime) {
+    assert!(rt; leaves_seven(&rt, rt.alloc()));
 }
 
 const SHOWS: [Event<'static>; 2] = [

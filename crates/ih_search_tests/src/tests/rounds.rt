@@ -60,9 +60,9 @@ fn none_by(entries: &[Entry], worker: u32) -> bool
     true
 }
 
-// Whether the offer's worker isn't done after these entries, this is its next move, and the offer has seen all entries
-// of its worker.
-fn may_come(entries: &[Entry], options: &Options, offer: &Offer) -> bool
+/// Whether the offer's worker isn't done after these entries, this is its next move, and the offer has seen all entries
+/// of its worker.
+pub(crate) fn may_come(entries: &[Entry], options: &Options, offer: &Offer) -> bool
     requires { offer.now.seen ≤ length entries.now }
     ensures { IsTrue result → (offer.now.worker < options.now.workers)
         × (next_number options.now (tries entries.now) offer.now.worker ≡ Some offer.now.number)

@@ -1,10 +1,11 @@
 //! What workers see of each other over one book.
 
-ghost use Rattle.std.specs.Prelude.{◌≡◌, ◌≤◌, [], IfOk};
+ghost use Rattle.std.specs.Prelude.{◌≡◌, ◌≤◌, [], IfOk, IfSome};
 ghost use Rattle.ih_plan.specs.{Timetable.IsPlanOf, Cells.cell_count};
 ghost use Rattle.ih_journal.specs.Settings.{IsLawful};
-ghost use Rattle.ih_cellbook.specs.{Keeping.base_with, Replicas.IsReplicaIn, ReplicaState.ReplicaState};
+ghost use Rattle.ih_cellbook.specs.{Keeping.base_with, Replicas.IsReplicaIn, Replicas.IsReplicaOf, ReplicaState.ReplicaState};
 
+use crate::tests::histories::{is_second_exact, is_second_try, is_start_again};
 use crate::tests::rounds::{Priced, advance, catch_up, is_priced, offer};
 use crate::tests::steps::{
     COLD, FIRST_NURSE, JOIN, SECOND_NURSE, TWICE_STALE, cold, have_prices, hot, is,
@@ -147,59 +148,25 @@ fn new_room(alloc: Global) -> Result<Room, AllocError> {
     Ok(Room { buffer, news })
 }
 
-// The same where the second worker is new.
-fn act_with(
+/// Two workers over a start, of whom neither has seen anything.
+pub(crate) fn two_replicas<'a>(
     alloc: Global,
-    inst: &Instance,
+    inst: &'a Instance,
     start: &Plan,
-    book: &mut Book<'_>,
-    zero: &mut Replica<'_>,
     options: &Options,
-    room: &mut Room,
     freeze: u32,
-    rows: &[Row],
-) -> bool
+) -> Result<(Replica<'a>, Replica<'a>), AllocError>
     requires start { IsPlanOf inst.now.draft start.now }
     requires lawful { IsLawful options.now }
-    requires base { book.old.base ≡ base_with inst.now.draft start.now options.now freeze }
-    requires empty { book.old.entries ≡ [] }
-    requires zero { IsReplicaIn book.old.base book.old.entries zero.old }
-    ensures base { book.new.base ≡ book.old.base }
+    ensures { let base = base_with inst.now.draft start.now options.now freeze in
+        IfOk result (λ t. IsReplicaOf base [] t.0 × IsReplicaOf base [] t.1) }
 {
-    match Replica::new(alloc, inst, start, options, freeze, 1) {
-        Ok(mut one) => act_all(inst, book, zero, &mut one, options, room, rows),
-        Err(_) => false,
-    }
+    let zero = Replica::new(alloc, inst, start, options, freeze, 0)?;
+    let one = Replica::new(alloc, inst, start, options, freeze, 1)?;
+    Ok((zero, one))
 }
 
-// The same where both workers are new.
-fn act_in(
-    alloc: Global,
-    inst: &Instance,
-    start: &Plan,
-    book: &mut Book<'_>,
-    options: &Options,
-    room: &mut Room,
-    freeze: u32,
-    rows: &[Row],
-) -> bool
-    requires start { IsPlanOf inst.now.draft start.now }
-    requires lawful { IsLawful options.now }
-    requires base { book.old.base ≡ base_with inst.now.draft start.now options.now freeze }
-    requires empty { book.old.entries ≡ [] }
-    ensures base { book.new.base ≡ book.old.base }
-{
-    match Replica::new(alloc, inst, start, options, freeze, 0) {
-        Ok(mut zero) => {
-            act_with(
-                alloc, inst, start, book, &mut zero, options, room, freeze, rows,
-            )
-        }
-        Err(_) => false,
-    }
-}
-
-// The same with room for copies and news.
+// The same where both workers are new, with room for copies and news.
 fn act_first(
     alloc: Global,
     inst: &Instance,
@@ -215,13 +182,19 @@ fn act_first(
     requires empty { book.old.entries ≡ [] }
     ensures base { book.new.base ≡ book.old.base }
 {
-    match new_room(alloc) {
-        Ok(mut room) => act_in(alloc, inst, start, book, options, &mut room, freeze, rows),
+    let Ok(mut room) = new_room(alloc) else {
+        return false;
+    };
+    match two_replicas(alloc, inst, start, options, freeze) {
+        Ok((mut zero, mut one)) => {
+            act_all(inst, book, &mut zero, &mut one, options, &mut room, rows)
+        }
         Err(_) => false,
     }
 }
 
-fn new_book<'a>(
+/// A book over a start, without entries.
+pub(crate) fn new_book<'a>(
     alloc: Global,
     inst: &'a Instance,
     start: &'a Plan,
@@ -237,41 +210,31 @@ fn new_book<'a>(
     Book::new(alloc, inst, start, &first, options, freeze)
 }
 
-// Whether the rows come out so over a new book, and the entries at these places then have these prices.
-fn come_out(
+// A book over which the rows came out so, and whose entries at these places then have these prices.
+fn played<'a>(
     alloc: Global,
-    inst: &Instance,
-    start: &Plan,
-    book: &mut Book<'_>,
+    inst: &'a Instance,
+    start: &'a Plan,
     options: &Options,
     freeze: u32,
     rows: &[Row],
     prices: &[Price],
-) -> bool
+) -> Option<Book<'a>>
     requires start { IsPlanOf inst.now.draft start.now }
     requires lawful { IsLawful options.now }
-    requires base { book.old.base ≡ base_with inst.now.draft start.now options.now freeze }
-    requires empty { book.old.entries ≡ [] }
-{
-    act_first(alloc, inst, start, book, options, freeze, rows)
-        && have_prices(book.entries(), prices)
-}
-
-fn play(
-    alloc: Global,
-    inst: &Instance,
-    start: &Plan,
-    options: &Options,
-    freeze: u32,
-    rows: &[Row],
-    prices: &[Price],
-) -> bool
-    requires start { IsPlanOf inst.now.draft start.now }
-    requires lawful { IsLawful options.now }
+    ensures { IfSome result (λ k. k.base.instance ≡ inst.now.draft) }
 {
     match new_book(alloc, inst, start, options, freeze) {
-        Ok(mut book) => come_out(alloc, inst, start, &mut book, options, freeze, rows, prices),
-        Err(_) => false,
+        Ok(mut book) => {
+            if act_first(alloc, inst, start, &mut book, options, freeze, rows)
+                && have_prices(book.entries(), prices)
+            {
+                Some(book)
+            } else {
+                None
+            }
+        }
+        Err(_) => None,
     }
 }
 
@@ -300,10 +263,7 @@ const COMES_AGAIN: [Row; 7] = [
     (0, Offers(0, JOIN), ACCEPTED),
 ];
 
-const AGAIN_PRICES: [Price; 2] = [
-    (0, [0; 9], [0, -2, 2, 0, 0, 0, 0, 0]),
-    (2, CROWDED, [1, 4, 2, 2, 1, 1, 0, -1]),
-];
+const AGAIN_PRICES: [Price; 1] = [(0, [0; 9], [0, -2, 2, 0, 0, 0, 0, 0])];
 
 // Of the second patient joining the first.
 const CROWDED: [i64; 9] = [1, 0, 0, 0, 0, 0, 1, 0, 0];
@@ -389,18 +349,52 @@ const LATER: Priced = Priced {
     reads: None,
 };
 
-// Whether each of these comes out so.
-fn come_out_so(alloc: Global, inst: &Instance, start: &Plan) -> bool
+// Whether a nurse who came back leaves a trace, and a price behind another's entry rests on the versions that it raised.
+fn are_seen(alloc: Global, inst: &Instance, start: &Plan) -> bool
     requires { IsPlanOf inst.now.draft start.now }
 {
-    let twice = hot(2, 2, 1);
-    let once = hot(2, 2, 0);
-    let alone = hot(1, 3, 0);
-    play(alloc, inst, start, &twice, 0, &COMES_AGAIN, &AGAIN_PRICES)
-        && play(alloc, inst, start, &once, 0, &TRACE, &TRACE_PRICES)
-        && play(alloc, inst, start, &once, 0, &BOTH, &BOTH_PRICES)
-        && play(alloc, inst, start, &once, 0, &BEHIND, &[])
-        && play(alloc, inst, start, &alone, 1, &FROZEN, &FROZEN_PRICES)
+    let options = hot(2, 2, 0);
+    played(alloc, inst, start, &options, 0, &TRACE, &TRACE_PRICES).is_some()
+        && played(alloc, inst, start, &options, 0, &BEHIND, &[]).is_some()
+}
+
+// Whether a move that was stale is accepted when it comes again.
+fn comes_again(alloc: Global, inst: &Instance, start: &Plan) -> bool
+    requires { IsPlanOf inst.now.draft start.now }
+{
+    let options = hot(2, 2, 1);
+    match played(alloc, inst, start, &options, 0, &COMES_AGAIN, &AGAIN_PRICES) {
+        Some(book) => is_second_try(alloc, &options, book.entries()),
+        None => false,
+    }
+}
+
+// Whether moves that touch nothing in common are both made, the second for what the bills say.
+fn are_both_made(alloc: Global, inst: &Instance, start: &Plan) -> bool
+    requires { IsPlanOf inst.now.draft start.now }
+{
+    match played(alloc, inst, start, &hot(2, 2, 0), 0, &BOTH, &BOTH_PRICES) {
+        Some(book) => is_second_exact(alloc, inst, start, &book),
+        None => false,
+    }
+}
+
+// Whether the past is frozen, and a later move and its opposite lead back to the start.
+fn leads_back(alloc: Global, inst: &Instance, start: &Plan) -> bool
+    requires { IsPlanOf inst.now.draft start.now }
+{
+    match played(
+        alloc,
+        inst,
+        start,
+        &hot(1, 3, 0),
+        1,
+        &FROZEN,
+        &FROZEN_PRICES,
+    ) {
+        Some(book) => is_start_again(alloc, inst, start, &book),
+        None => false,
+    }
 }
 
 // What the first worker's price of joining the first patient rests on: the stay, the room and the theatre on the day,
@@ -505,30 +499,13 @@ const ONE_STALE: [Row; 2] = [
     (0, Offers(0, JOIN), ONCE_STALE),
 ];
 
-fn raises_versions(
-    alloc: Global,
-    inst: &Instance,
-    start: &Plan,
-    book: &mut Book<'_>,
-    options: &Options,
-) -> bool
-    requires start { IsPlanOf inst.now.draft start.now }
-    requires lawful { IsLawful options.now }
-    requires base { book.old.base ≡ base_with inst.now.draft start.now options.now 0 }
-    requires empty { book.old.entries ≡ [] }
-{
-    act_first(alloc, inst, start, book, options, 0, &ONE_STALE)
-        && are_kept(alloc, book, Numbering::of(inst).count())
-}
-
 // Whether an accepted entry raises the versions of what it touches and a stale one doesn't, and both are copied.
 fn accepted_entries_raise_versions(alloc: Global, inst: &Instance, start: &Plan) -> bool
     requires { IsPlanOf inst.now.draft start.now }
 {
-    let options = hot(2, 2, 0);
-    match new_book(alloc, inst, start, &options, 0) {
-        Ok(mut book) => raises_versions(alloc, inst, start, &mut book, &options),
-        Err(_) => false,
+    match played(alloc, inst, start, &hot(2, 2, 0), 0, &ONE_STALE, &[]) {
+        Some(book) => are_kept(alloc, &book, Numbering::of(inst).count()),
+        None => false,
     }
 }
 
@@ -580,32 +557,19 @@ fn are_copied_by_256(alloc: Global, book: &Book<'_>) -> bool {
     }
 }
 
-fn are_idle(
-    alloc: Global,
-    inst: &Instance,
-    start: &Plan,
-    book: &mut Book<'_>,
-    options: &Options,
-    rows: &[Row],
-) -> bool
-    requires start { IsPlanOf inst.now.draft start.now }
-    requires lawful { IsLawful options.now }
-    requires base { book.old.base ≡ base_with inst.now.draft start.now options.now 0 }
-    requires empty { book.old.entries ≡ [] }
+// Whether nothing came of the entries but that they are there.
+fn are_idle(alloc: Global, book: &Book<'_>, cells: u32) -> bool
+    requires { cells ≤ cell_count book.now.base.instance }
 {
-    act_first(alloc, inst, start, book, options, 0, rows)
-        && book.best() == Some((0, 159))
-        && are_untouched(book, Numbering::of(inst).count())
-        && are_copied_by_256(alloc, book)
+    book.best() == Some((0, 159)) && are_untouched(book, cells) && are_copied_by_256(alloc, book)
 }
 
 fn come_out_idle(alloc: Global, inst: &Instance, start: &Plan, rows: &[Row]) -> bool
     requires { IsPlanOf inst.now.draft start.now }
 {
-    let options = cold(2, 700);
-    match new_book(alloc, inst, start, &options, 0) {
-        Ok(mut book) => are_idle(alloc, inst, start, &mut book, &options, rows),
-        Err(_) => false,
+    match played(alloc, inst, start, &cold(2, 700), 0, rows, &[]) {
+        Some(book) => are_idle(alloc, &book, Numbering::of(inst).count()),
+        None => false,
     }
 }
 
@@ -624,7 +588,10 @@ fn hold(alloc: Global, inst: &Instance, start: &Plan) -> bool
 {
     rests_on_what_is_read(alloc, inst, start)
         && accepted_entries_raise_versions(alloc, inst, start)
-        && come_out_so(alloc, inst, start)
+        && are_seen(alloc, inst, start)
+        && comes_again(alloc, inst, start)
+        && are_both_made(alloc, inst, start)
+        && leads_back(alloc, inst, start)
         && looks_show_256_each(alloc, inst, start)
 }
 

@@ -1,6 +1,6 @@
 //! Turns over lists of numbers, by seats one after the other and in threads.
 
-ghost use Rattle.std.specs.Prelude.{◌≡◌, ◌+◌, ◌-◌, ◌*◌, ◌^◌, ◌<◌, ◌≤◌};
+ghost use Rattle.std.specs.Prelude.{◌≡◌, ◌+◌, ◌-◌, ◌*◌, ◌^◌, ◌<◌, ◌≤◌, IfSome};
 ghost use Rattle.ih_turn.specs.Seats.{IsSeatOf, seat_count, number_of, turns_left};
 
 use ih_turn::{Kept, Seat, Turn};
@@ -153,31 +153,46 @@ fn added<R: Threads + Wait + Sync>(
     closed(alloc, turn, one, two)
 }
 
-// Whether two seats of a thousand turns each leave a thousand of each number.
-fn leave_two_thousand<R: Threads + Wait + Sync>(rt: &R, alloc: Global) -> Result<bool, AllocError> {
+// A turn over an empty list, and its two seats, each with so many turns.
+fn two_seats(alloc: Global, turns: u64) -> Option<(Turn<Numbers>, Seat<Numbers>, Seat<Numbers>)>
+    requires { turns ≤ 1000 }
+    ensures own { IfSome result (λ t. (seat_count t.0 ≡ 2) × IsSeatOf t.0 t.1 × IsSeatOf t.0 t.2) }
+    ensures numbers { IfSome result (λ t. (number_of t.1 ≡ 0) × (number_of t.2 ≡ 1)) }
+    ensures left { IfSome result (λ t. (turns_left t.1 ≡ turns) × (turns_left t.2 ≡ turns)) }
+{
     let empty = Numbers {
         items: Vec::new(alloc),
     };
-    let Ok((turn, mut seats)) = Turn::new(alloc, empty, 2, 1000) else {
-        return Ok(false);
+    let Ok((turn, mut seats)) = Turn::new(alloc, empty, 2, turns) else {
+        return None;
     };
-    let Some(two) = seats.pop() else {
-        return Ok(false);
-    };
-    let Some(one) = seats.pop() else {
-        return Ok(false);
-    };
-    if one.number() != 0 || two.number() != 1 {
-        return Ok(false);
+    let two = seats.pop()?;
+    let one = seats.pop()?;
+    if one.number() == 0 && two.number() == 1 {
+        Some((turn, one, two))
+    } else {
+        None
     }
-    let list = added(rt, alloc, turn, one, two, 1000)?;
-    Ok(list.items.len() == 2000 && count_of(&list, 5) == 1000 && count_of(&list, 6) == 1000)
+}
+
+// Whether a list has a thousand of each number, and no other.
+fn has_two_thousand(list: &Numbers) -> bool {
+    list.items.len() == 2000 && count_of(list, 5) == 1000 && count_of(list, 6) == 1000
+}
+
+// Whether two seats of a thousand turns each leave a thousand of each number.
+fn leave_two_thousand<R: Threads + Wait + Sync>(rt: &R, alloc: Global) -> bool {
+    match two_seats(alloc, 1000) {
+        Some((turn, one, two)) => {
+            added(rt, alloc, turn, one, two, 1000).is_ok_and(|list| has_two_thousand(&list))
+        }
+        None => false,
+    }
 }
 
 #[test]
-fn two_threads_leave_two_thousand(rt: HostRuntime) -> Result<(), Fail> {
-    assert!(rt; leave_two_thousand(&rt, rt.alloc())?);
-    Ok(())
+fn two_threads_leave_two_thousand(rt: HostRuntime) {
+    assert!(rt; leave_two_thousand(&rt, rt.alloc()));
 }
 
 // Whether the seat has seen, made and left so many.
@@ -193,46 +208,35 @@ fn five_alone<R: Wait>(
     turn: Turn<Numbers>,
     one: Seat<Numbers>,
     two: Seat<Numbers>,
-) -> Result<Option<Numbers>, AllocError>
+) -> Option<Numbers>
     requires own { (seat_count turn ≡ 2) × IsSeatOf turn one × IsSeatOf turn two }
+    requires numbers { (number_of one ≡ 0) × (number_of two ≡ 1) }
     requires left { (0 < turns_left one) × (0 < turns_left two) }
 {
     cross(&turn, &one);
-    if one.number() != 0 || two.number() != 1 {
-        return Ok(None);
-    }
     let one = step(rt, &turn, one, true);
     let two = step(rt, &turn, two, false);
-    if !has(&one, 1, 1, 1) || !has(&two, 1, 0, 1) {
-        return Ok(None);
+    if has(&one, 1, 1, 1) && has(&two, 1, 0, 1) {
+        closed(alloc, turn, one, two).ok()
+    } else {
+        None
     }
-    Ok(Some(closed(alloc, turn, one, two)?))
 }
 
 // Whether the list is then that of 5 alone.
-fn is_five_alone<R: Wait>(rt: &R, alloc: Global) -> Result<bool, AllocError> {
-    let empty = Numbers {
-        items: Vec::new(alloc),
-    };
-    let Ok((turn, mut seats)) = Turn::new(alloc, empty, 2, 2) else {
-        return Ok(false);
-    };
-    let Some(two) = seats.pop() else {
-        return Ok(false);
-    };
-    let Some(one) = seats.pop() else {
-        return Ok(false);
-    };
-    match five_alone(rt, alloc, turn, one, two)? {
-        Some(list) => Ok(list.items.as_slice() == [5].as_slice()),
-        None => Ok(false),
+fn is_five_alone<R: Wait>(rt: &R, alloc: Global) -> bool {
+    match two_seats(alloc, 2) {
+        Some((turn, one, two)) => five_alone(rt, alloc, turn, one, two).is_some_and(|list| list
+            .items
+            .as_slice()
+            == [5].as_slice()),
+        None => false,
     }
 }
 
 #[test]
-fn a_list_of_five_alone(rt: HostRuntime) -> Result<(), Fail> {
-    assert!(rt; is_five_alone(&rt, rt.alloc())?);
-    Ok(())
+fn a_list_of_five_alone(rt: HostRuntime) {
+    assert!(rt; is_five_alone(&rt, rt.alloc()));
 }
 
 // In one thread, in two, and in as many as a search may have.
