@@ -2,14 +2,17 @@
 
 PROGRAM and PLANNER in the environment name the programs under test, PLAIN a plain program that is built; without them
 they are those that examples/run.sh builds, and bench/plain is built by cargo."""
-import argparse, atexit, collections, json, os, shutil, signal, subprocess, sys, tempfile, time
+import argparse, atexit, collections, json, os, re, shutil, signal, subprocess, sys, tempfile, time
 
 TOP = os.path.dirname(os.path.dirname(os.path.abspath(__file__)))
 sys.dont_write_bytecode = True
 
+# A setting of the C library would count as the speed of a program.
+os.environ.pop("GLIBC_TUNABLES", None)
+
 # Seconds of processors, seconds by the clock, the peak of memory in kB (one below that of this script, some 14,000 kB,
-# can't be told).
-Figures = collections.namedtuple("Figures", "processor clock peak")
+# can't be told); the seconds of processors in the program and in the system, and the new pages of memory.
+Figures = collections.namedtuple("Figures", "processor clock peak user system pages")
 Ended = collections.namedtuple("Ended", "figures text errors status")
 
 
@@ -102,7 +105,9 @@ def call(line, allowed=(0,), folder=None, **environment):
         said, complaints = text.read().decode(), errors.read().decode()
     if status not in allowed:
         sys.exit("status %d of: %s\n%s%s" % (status, " ".join(line), said[-300:], complaints[-300:]))
-    return Ended(Figures(used.ru_utime + used.ru_stime, clock, used.ru_maxrss), said, complaints, status)
+    user, system = used.ru_utime, used.ru_stime
+    figures = Figures(user + system, clock, used.ru_maxrss, user, system, used.ru_minflt)
+    return Ended(figures, said, complaints, status)
 
 
 def least(*calls, times=3):
@@ -116,6 +121,13 @@ def least(*calls, times=3):
 
 def less(long, short):
     return Figures(*(a - b for a, b in zip(long, short)))
+
+
+def instructions(line, folder=None, **environment):
+    """How many instructions a call takes, by callgrind."""
+    tool = ["valgrind", "--tool=callgrind", "--callgrind-out-file=/dev/null"]
+    said = call(tool + line, (0, 5), folder, **environment).errors
+    return int(re.search(r"Collected : (\d+)", said).group(1))
 
 
 def same(one, other):

@@ -1,8 +1,8 @@
 #!/usr/bin/env bash
 # Builds both programs where they aren't built yet, shows a search that needs no file, searches the ward of this
-# folder, shows what was written, checks it, makes its page, searches on from it while the first two days stay as they
-# are, and makes a better plan with the planners' program. The first build proves every crate below the programs, which
-# takes a while; later calls start at once.
+# folder, shows what was written, checks it, shows how a call ends whose text can't be put out, makes its page, searches
+# on from it while the first two days stay as they are, and makes a better plan with the planners' program. The first
+# build proves every crate below the programs, which takes a while; later calls start at once.
 #   examples/run.sh [FOLDER]     FOLDER takes the files
 set -euo pipefail
 top=$(cd "$(dirname "$0")/.." && pwd)
@@ -39,6 +39,10 @@ echo
 echo
 echo "Checked, it ends with:"
 "$program" check "$ward" "$work/solution.json" | tail -n 1
+status=0
+"$program" check "$ward" "$work/solution.json" >/dev/full || status=$?
+[ "$status" -eq 6 ] || { echo "run.sh: $status, and not 6, is the status of a check onto a full device" >&2; exit 1; }
+echo "Onto a full device, it ends with status 6."
 echo
 "$planner" view "$ward" "$work/solution.json" "$work/page.html"
 echo "Its page is $work/page.html"

@@ -26,7 +26,7 @@
 #                       the journal of each here: only a plan that the program on this machine comes to counts
 #   --moves N           how many moves each of these calls makes (1000000); their heat begins at --hot (20)
 # IH and PLANNER in the environment name the two programs. The status is 0 if OUT has a feasible plan in the end, 5 if
-# none was found, 130 after an interrupt, 2 if the call is refused, 1 if something failed.
+# none was found, 130 after an interrupt, 2 if the call or a file is refused, 1 if something failed.
 name=search
 top=$(cd "$(dirname "$0")" && pwd)
 # shellcheck source=examples/search/plans.sh

@@ -87,6 +87,9 @@ expect 2 'no file that holds data' search "in st.json" /dev/null 5
 echo "something else" >"other.json"
 expect 2 'has no plan of this instance' search "in st.json" other.json 5
 expect 0 '^something else$' cat other.json
+expect 2 'search: .*/other.json: instance refused: NotJson' search other.json out.json 5
+expect 2 'search: .*/other.json: instance refused: NotJson' search --journal --start other.json other.json out.json 5
+expect 2 'search: .*/other.json: solution refused: NotJson' search --start other.json "in st.json" out.json 5
 expect 2 'plot ends in .svg' search --plot x.png "in st.json" out.json 5
 expect 2 'plot is OUT' search --plot o.svg "in st.json" o.svg 5
 cp "in st.json" "in st.svg"

@@ -43,6 +43,19 @@ writable() { # what it is called, its name
   echo "$path"
 }
 
+# Has the program read INSTANCE and the start: one that it refuses is named before anything is searched.
+check_inputs() {
+  local plan=$work/start.json status
+  [ -n "$start" ] || { plan=$work/none.json && echo '{}' >"$plan"; }
+  "$ih" check "$instance" "$plan" >"$work/check" 2>&1
+  status=$?
+  case $status in
+    0 | 9) ;; # it may break rules
+    4) [ -z "$start" ] || fail "$start: $(head -n 1 "$work/check")" ;;
+    *) fail "$instance: $(head -n 1 "$work/check")" ;;
+  esac
+}
+
 # Looks at the files of the call. A feasible plan that OUT has counts, unless all is to start anew: it is kept until a
 # cheaper one is found, and the search goes on from it if no start is named.
 open_out() {
@@ -54,6 +67,7 @@ open_out() {
   work=$(mktemp -d) || fail "cannot make a folder for what is searched"
   trap leave EXIT
   [ -z "$start" ] || cp -- "$start" "$work/start.json" || exit 2
+  check_inputs
   [ ! -s "$out" ] || [ -n "$anew" ] || go_on
   [ -z "$start" ] || start=$work/start.json
   seen=$(state_of_out)
