@@ -111,14 +111,14 @@ def read(inst, text):
     assert not lost, "links lead nowhere: %s" % lost[:5]
     lines = [row for row in page.rows if row and row[0][:1] in "VS" and row[0][1:].isdigit()]
     assert [row[0] for row in lines] == ["V%d" % i for i in range(1, 10)] + ["S%d" % i for i in range(1, 9)], lines
-    numbers = {row[0]: int(row[2]) for row in lines}
+    numbers = {row[0]: int(row[3]) for row in lines}
     assert list(page.lists) == [name for name in numbers if numbers[name]], "a list is missing, or has nothing"
     for name, items in page.lists.items():
         said = [item.strip().rpartition(": ")[2].split(" ")[0] for item in items]
         amounts = [int(word) if word.isdigit() else 1 for word in said]
         assert sum(amounts) == numbers[name], "the amounts of %s don't sum to its number" % name
         assert amounts == sorted(amounts, reverse=True), "the list of %s doesn't fall" % name
-    known = {"html", "meta", "title", "style", "main", "h1", "h2", "h3", "p", "table", "tr", "th", "td", "div", "a", "i",
+    known = {"html", "meta", "title", "style", "main", "h1", "h2", "h3", "p", "table", "thead", "tr", "th", "td", "div", "a", "i",
              "bdi", "details", "summary", "ul", "li", "b", "br", "section"}
     assert set(page.tags) <= known, set(page.tags) - known
     print("persons %d, links %d, tags %d, items of lists %d" % (persons, len(page.links), sum(page.tags.values()),

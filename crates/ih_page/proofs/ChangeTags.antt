@@ -8,16 +8,17 @@ use Rattle.ih_tables.specs.declared.drafts.Draft.{Draft}
 use Rattle.ih_tables.specs.Bills.{at}
 use Rattle.ih_tables.specs.Sizes.{room_count}
 use Rattle.ih_plan.specs.Timetable.{Timetable}
+use Rattle.ih_page.specs.Rooms.{anchor_text}
 use Rattle.ih_page.specs.Summary.{line_text}
 use Rattle.ih_page.specs.Surgery.{name_link}
-use Rattle.ih_page.specs.Changes.{broken_row, change_item, changed_costs, changed_list, changed_nurses, changed_patients, changed_shift_count, changed_shifts, changes, changes_head, cost_td, costs_text, counts_text, part_row, part_rows, shift_item, shift_items, shifts_head, shifts_if, shifts_list}
+use Rattle.ih_page.specs.Changes.{broken_row, change_item, changed_costs, changed_list, changed_nurses, changed_patients, changed_shift_count, changed_shifts, changes, changes_head, cost_td, costs_text, counts_text, part_row, part_rows, shift_item, shift_items, shift_link, shifts_head, shifts_if, shifts_list}
 use Rattle.ih_page.proofs.Scans.{GivesId, Own, all-below, all-of, if-any, by_pieces}
 use Rattle.ih_page.proofs.NamesAndNumbers.{names_and_numbers}
 use Rattle.ih_page.proofs.IndexTags.{place}
-use Rattle.ih_page.proofs.RoomTags.{nurse-name}
-use Rattle.ih_page.proofs.SummaryTags.{cost-name}
+use Rattle.ih_page.proofs.RoomTags.{nurse-name, room-name}
+use Rattle.ih_page.proofs.SummaryTags.{cost-name, whole}
 use Rattle.ih_page.proofs.SurgeryTags.{link as person-link}
-use Rattle.ih_page.proofs.WrongTags.{link, room}
+use Rattle.ih_page.proofs.WrongTags.{shift-at-start}
 
 item : (I : Draft) (first : Option Date) (O P : Timetable) (p : ℕ) → Own (change_item I first O P p)
 item I first O P p ids = simp (by_pieces, if-any (name_link p) (person-link p), place) refl
@@ -25,6 +26,10 @@ item I first O P p ids = simp (by_pieces, if-any (name_link p) (person-link p), 
 patients : (I : Draft) (first : Option Date) (O P : Timetable) → Own (changed_list I first O P)
 unfolding changed_list
 patients I first O P = all-of (change_item I first O P) (item I first O P) (changed_patients I O P)
+
+link : (I : Draft) (first : Option Date) (r k : ℕ) → Own (shift_link I first r k)
+unfolding shift_link anchor_text
+link I first r k ids = simp (by_pieces, names_and_numbers, shift-at-start) refl
 
 shift : (I : Draft) (first : Option Date) (O P : Timetable) (r k : ℕ) → Own (shift_item I first O P r k)
 shift I first O P r k ids = simp (by_pieces, link, nurse-name) refl
@@ -35,7 +40,7 @@ shifts I first O P r = all-of (shift_item I first O P r) (shift I first O P r) (
 
 head-of-shifts : (I : Draft) (r n : ℕ) → Own (shifts_head I r n)
 unfolding shifts_head
-head-of-shifts I r n ids = simp (by_pieces, names_and_numbers, room) refl
+head-of-shifts I r n ids = simp (by_pieces, names_and_numbers, room-name) refl
 
 shifts-if : (I : Draft) (first : Option Date) (O P : Timetable) (r n : ℕ) → Own (shifts_if I first O P r n)
 unfolding shifts_list
@@ -64,7 +69,7 @@ broken-rules b c ids = simp (by_pieces, two) refl
 
 costs : (w : Weights) (b c : Bill) → Own (changed_costs w b c)
 unfolding changed_costs
-costs w b c ids = simp (by_pieces, broken-rules, parts w b c, two) refl
+costs w b c ids = simp (by_pieces, broken-rules, parts w b c, whole, two) refl
 
 counts : (patients rooms : ℕ) → Own (counts_text patients rooms)
 unfolding counts_text

@@ -1,10 +1,11 @@
 -- The tags of days are the page's own.
-use Rattle.std.proofs.Common.{ℕ, codes, refl, Option, Some, None}
+use Rattle.std.proofs.Common.{ℕ, codes, refl, List, Option, Some, None}
 use Rattle.ih_dates.specs.declared.dates.Date.{Date}
 use Rattle.ih_dates.specs.Names.{month_name, weekday_name}
+use Rattle.ih_tables.specs.declared.drafts.Draft.{Draft}
 use Rattle.ih_page.specs.Html.{labelled}
-use Rattle.ih_page.specs.DayHeads.{beside_if, date_text, dated_below, dated_beside, dated_if, dated_text, day_behind, day_head, day_text}
-use Rattle.ih_page.proofs.Scans.{Own, by_pieces}
+use Rattle.ih_page.specs.DayHeads.{beside_if, date_text, dated_below, dated_beside, dated_if, dated_text, day_behind, day_head, day_text, heads_and_days, table_head}
+use Rattle.ih_page.proofs.Scans.{Own, all-below, by_pieces}
 use Rattle.ih_page.proofs.NamesAndNumbers.{names_and_numbers}
 
 month : (m : ℕ) → Own (month_name m)
@@ -29,17 +30,31 @@ unfolding dated_beside
 beside None d ids = refl
 beside (Some first) d ids = simp (by_pieces, dated) refl
 
-pub day : (first : Option Date) (d : ℕ) → Own (day_head first (codes "<th>") d)
+day : (first : Option Date) (d : ℕ) → Own (day_head first (codes "<th>") d)
 unfolding day_head labelled
 day first d ids = simp (by_pieces, names_and_numbers, below) refl
 
-pub wide-day : (first : Option Date) (d : ℕ) → Own (day_head first (codes "<th colspan=3>") d)
+wide-day : (first : Option Date) (d : ℕ) → Own (day_head first (codes "<th colspan=3>") d)
 unfolding day_head labelled
 wide-day first d ids = simp (by_pieces, names_and_numbers, below) refl
+
+-- a table's head, where its first heads' tags are the page's own
+pub day-heads : (I : Draft) (first : Option Date) (heads : List ℕ) → Own heads → Own (table_head I first heads)
+unfolding table_head heads_and_days
+day-heads I first heads own ids = simp (by_pieces, own, all-below (day_head first (codes "<th>")) (day first)) refl
+
+-- such a row whose days have three columns each
+pub wide-heads : (I : Draft) (first : Option Date) (heads : List ℕ) → Own heads → Own (heads_and_days I first heads (codes "<th colspan=3>"))
+unfolding heads_and_days
+wide-heads I first heads own ids = simp (by_pieces, own, all-below (day_head first (codes "<th colspan=3>")) (wide-day first)) refl
 
 pub day-in-line : (first : Option Date) (d : ℕ) → Own (day_text first d)
 unfolding day_behind labelled
 day-in-line first d ids = simp (by_pieces, names_and_numbers, beside) refl
+
+pub day-at-start : (first : Option Date) (d : ℕ) → Own (day_behind (codes "day ") first d)
+unfolding day_behind labelled
+day-at-start first d ids = simp (by_pieces, names_and_numbers, beside) refl
 
 pub last-day-in-line : (first : Option Date) (d : ℕ) → Own (day_behind (codes " to ") first d)
 unfolding day_behind labelled

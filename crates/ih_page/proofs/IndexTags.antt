@@ -8,13 +8,12 @@ use Rattle.ih_page.specs.Surgery.{name_link}
 use Rattle.ih_page.specs.PatientIndex.{placement_text, place_text, index_item, patient_index}
 use Rattle.ih_page.proofs.Scans.{GivesId, Own, all-below, if-any, by_pieces}
 use Rattle.ih_page.proofs.DayTags.{day-in-line}
-use Rattle.ih_page.proofs.RoomTags.{theatre-name}
+use Rattle.ih_page.proofs.RoomTags.{room-name, theatre-name}
 use Rattle.ih_page.proofs.SurgeryTags.{link}
-use Rattle.ih_page.proofs.WrongTags.{room}
 
 placement : (I : Draft) (first : Option Date) (at : Placement) → Own (placement_text I first at)
 unfolding placement_text
-placement I first at ids = simp (by_pieces, room, day-in-line, theatre-name) refl
+placement I first at ids = simp (by_pieces, room-name, day-in-line, theatre-name) refl
 
 pub place : (I : Draft) (first : Option Date) (o : Option Placement) → Own (place_text I first o)
 place I first None ids = refl

@@ -16,7 +16,7 @@ use Rattle.ih_validate.specs.Surgery.{count_of, one_of}
 use Rattle.ih_validate.specs.declared.surgery.ResourceKind.{ResourceKind}
 use Rattle.ih_validate.specs.declared.surgery.ResourceKind.TheVariants.{Theatres, Surgeons}
 use Rattle.ih_page.specs.BillLines.{IsLine, number_in}
-use Rattle.ih_page.specs.DayHeads.{heads_and_days}
+use Rattle.ih_page.specs.DayHeads.{table_head}
 use Rattle.ih_page.specs.LeftOut.{left_out_item, left_out_of, left_out}
 use Rattle.ih_page.specs.Nursing.{load_td, nurse_head, nurse_row, nurses_text, shift_heads}
 use Rattle.ih_page.specs.Order.{dearest_first}
@@ -233,7 +233,7 @@ module _ (I : Draft) (first : Option Date) (older : Option Timetable) (P : Timet
   unfolding surgery_text
   surgeries kind part t h k =
       let row = λ (i : ℕ). surgery_row I P (one_of kind i) in
-      in-rest part (heads_and_days I first (heads_of kind) (codes "<th>")) _
+      in-rest part (table_head I first (heads_of kind)) _
       (in-first part (lines_below (count_of I kind) row) (codes "</table></div>\n") (in-lines part row t (count_of I kind) h k))
 
   in-theatres : (part : List ℕ) → IsPartOf part (surgery_text I first P Theatres) → IsPartOf part (tables I first P)

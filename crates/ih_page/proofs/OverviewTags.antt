@@ -9,16 +9,14 @@ use Rattle.ih_validate.specs.Surgery.{one_of}
 use Rattle.ih_validate.specs.declared.surgery.Resource.{Resource}
 use Rattle.ih_validate.specs.declared.surgery.Resource.TheVariants.{OfTheatre, OfSurgeon}
 use Rattle.ih_validate.specs.declared.surgery.ResourceKind.TheVariants.{Theatres}
-use Rattle.ih_page.specs.DayHeads.{day_head, heads_and_days}
 use Rattle.ih_page.specs.Html.{labelled}
 use Rattle.ih_page.specs.Rooms.{anchor_text}
 use Rattle.ih_page.specs.Overview.{quarter_td, used_text, share_td, room_share, room_shares, surgery_share, surgery_shares, nurse_link, excess_text, above_text, above_of, above_td, above_row, rooms_overview, theatres_overview, nurses_overview, overview}
 use Rattle.ih_page.proofs.Scans.{Own, all-below, by_pieces}
 use Rattle.ih_page.proofs.NamesAndNumbers.{names_and_numbers}
-use Rattle.ih_page.proofs.RoomTags.{nurse-name, shift-name}
-use Rattle.ih_page.proofs.DayTags.{day}
+use Rattle.ih_page.proofs.RoomTags.{nurse-name, room-name, shift-name}
+use Rattle.ih_page.proofs.DayTags.{day-heads}
 use Rattle.ih_page.proofs.SurgeryTags.{resource}
-use Rattle.ih_page.proofs.WrongTags.{room}
 
 room-cell : (I : Draft) (P : Timetable) (r d : ℕ) → Own (room_share I P r d)
 unfolding share_td quarter_td used_text anchor_text labelled
@@ -26,7 +24,7 @@ room-cell I P r d ids = simp (by_pieces, names_and_numbers) refl
 
 room-row : (I : Draft) (P : Timetable) (r : ℕ) → Own (room_shares I P r)
 unfolding room_shares
-room-row I P r ids = simp (by_pieces, room, all-below (room_share I P r) (room-cell I P r)) refl
+room-row I P r ids = simp (by_pieces, room-name, all-below (room_share I P r) (room-cell I P r)) refl
 
 surgery-cell : (I : Draft) (P : Timetable) (w : Resource) (d : ℕ) → Own (surgery_share I P w d)
 unfolding share_td quarter_td used_text anchor_text labelled
@@ -56,21 +54,26 @@ above-cells I P j ids =
     simp (by_pieces, shift-name, all-below (λ d. above_td I P (3 * d + j)) (λ d. above-cell I P (3 * d + j))) refl
 
 rooms : (I : Draft) (first : Option Date) (P : Timetable) → Own (rooms_overview I first P)
-unfolding rooms_overview heads_and_days
-rooms I first P ids = simp (by_pieces, all-below (day_head first (codes "<th>")) (day first), all-below (room_shares I P) (room-row I P)) refl
+unfolding rooms_overview
+rooms I first P ids =
+    let heads = codes "<h2>Overview by days</h2>\n<div><table class=v><thead><tr><th>rooms: persons of capacity" in
+    simp (by_pieces, day-heads I first heads (λ ids. refl), all-below (room_shares I P) (room-row I P)) refl
 
 theatres : (I : Draft) (first : Option Date) (P : Timetable) → Own (theatres_overview I first P)
-unfolding theatres_overview heads_and_days
+unfolding theatres_overview
 theatres I first P ids =
+    let heads = codes "</table>\n<table class=v><thead><tr><th>theatres: minutes used of minutes open" in
     simp (
       by_pieces,
-      all-below (day_head first (codes "<th>")) (day first),
+      day-heads I first heads (λ ids. refl),
       all-below (λ t. surgery_shares I P (one_of Theatres t)) (λ t. surgery-row I P (one_of Theatres t)),
     ) refl
 
 nurses : (I : Draft) (first : Option Date) (P : Timetable) → Own (nurses_overview I first P)
-unfolding nurses_overview heads_and_days
-nurses I first P ids = simp (by_pieces, all-below (day_head first (codes "<th>")) (day first), all-below (above_row I P) (above-cells I P)) refl
+unfolding nurses_overview
+nurses I first P ids =
+    let heads = codes "</table>\n<table class=v><thead><tr><th>nurses above their maximum workload" in
+    simp (by_pieces, day-heads I first heads (λ ids. refl), all-below (above_row I P) (above-cells I P)) refl
 
 pub overview-own : (I : Draft) (first : Option Date) (P : Timetable) → Own (overview I first P)
 unfolding overview

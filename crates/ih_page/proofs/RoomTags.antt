@@ -11,18 +11,20 @@ use Rattle.ih_tables.specs.declared.drafts.Surgeon.{Surgeon}
 use Rattle.ih_tables.specs.declared.drafts.Theatre.{Theatre}
 use Rattle.ih_plan.specs.declared.moves.Placement.{Placement}
 use Rattle.ih_plan.specs.Timetable.{Timetable}
-use Rattle.ih_page.specs.DayHeads.{day_head, heads_and_days}
 use Rattle.ih_page.specs.Html.{isolated, labelled, numbered}
-use Rattle.ih_page.specs.Rooms.{age_name, theatre_name, surgeon_name, shift_type_name, nurse_name, wide_td, delay_td, bar_td, bar_text, is_first_gender, patient_tag, occupant_tag, mandatory_mark, person_tds, patient_head, patient_row, legend, occupant_row, marked, anchor_text, td_at, count_td, nurse_td, room_title, room_head}
-use Rattle.ih_page.proofs.Scans.{GivesId, Own, all-below, if-any, by_pieces}
+use Rattle.ih_page.specs.Rooms.{age_name, room_name, theatre_name, surgeon_name, shift_type_name, nurse_name, wide_td, delay_td, bar_td, bar_text, is_first_gender, patient_tag, occupant_tag, mandatory_mark, person_tds, patient_head, patient_row, legend, occupant_row, marked, anchor_text, td_at, count_td, nurse_td, room_title, room_head}
+use Rattle.ih_page.proofs.Scans.{GivesId, Own, if-any, by_pieces}
 use Rattle.ih_page.proofs.NamesAndNumbers.{name, names_and_numbers}
 use Rattle.ih_page.proofs.IdNumbers.{one_number, two_numbers}
-use Rattle.ih_page.proofs.DayTags.{day}
+use Rattle.ih_page.proofs.DayTags.{day-heads}
 
 -- names
 
 age-name : (I : Draft) (g : ℕ) → Own (age_name I g)
 age-name I g = if-any isolated name _
+
+pub room-name : (I : Draft) (r : ℕ) → Own (room_name I r)
+room-name I r = if-any (λ (a : Room). isolated a.id) (λ a. name a.id) (slice_get I.rooms r)
 
 pub theatre-name : (I : Draft) (t : ℕ) → Own (theatre_name I t)
 theatre-name I t = if-any (λ (a : Theatre). isolated a.id) (λ a. name a.id) (slice_get I.operating_theaters t)
@@ -84,9 +86,10 @@ unfolding td_at anchor_text
 nurse I P r k ids = simp (by_pieces, names_and_numbers, nurse-name) refl
 
 pub head : (I : Draft) (first : Option Date) (r : ℕ) (a : Room) → GivesId (one_number 114 r) (room_head I first r a)
-unfolding room_head heads_and_days room_title numbered labelled
+unfolding room_head room_title numbered labelled
 head I first r a ids =
-    simp (by_pieces, names_and_numbers, all-below (day_head first (codes "<th>")) (day first)) refl
+    let heads = codes "<div><table><thead><tr><th>person<th>gender<th>age<th>theatre" in
+    simp (by_pieces, names_and_numbers, day-heads I first heads (λ ids. refl)) refl
 
 pub before-rooms : Own legend
 unfolding legend

@@ -14,7 +14,7 @@ use Rattle.ih_validate.specs.Report.{lines_below}
 use Rattle.ih_validate.specs.Surgery.{count_of, one_of}
 use Rattle.ih_validate.specs.declared.surgery.ResourceKind.{ResourceKind}
 use Rattle.ih_validate.specs.declared.surgery.ResourceKind.TheVariants.{Theatres, Surgeons}
-use Rattle.ih_page.specs.DayHeads.{heads_and_days}
+use Rattle.ih_page.specs.DayHeads.{table_head}
 use Rattle.ih_page.specs.LeftOut.{left_out, left_out_item, left_out_of}
 use Rattle.ih_page.specs.Nursing.{load_td, nurse_head, nurse_row, nurses_text, shift_heads}
 use Rattle.ih_page.specs.Order.{dearest_first}
@@ -138,7 +138,7 @@ module _ (I : Draft) (first : Option Date) (P : Timetable) (valid : IsValid I) w
   surgeries kind =
       let K = Of (section_of_kind kind) in
       let row = λ (i : ℕ). surgery_row I P (one_of kind i) in
-      bare-first K (heads_and_days I first (heads_of kind) (codes "<th>")) _ (surgery-heads I first kind)
+      bare-first K (table_head I first (heads_of kind)) _ (surgery-heads I first kind)
       (bare-last K (lines_below (count_of I kind) row) (codes "</table></div>\n") (all-lines first_number K row (count_of I kind) (surgery kind)) (λ ids. refl))
 
   load : (n : ℕ) → n < nurse_count I → Opens (λ id. (first_number id ≡ n) × Of 9 id) (nurse_row I P n)

@@ -1,5 +1,5 @@
 -- The tags of theatres and surgeons are the page's own, and each cell gives its id.
-use Rattle.std.proofs.Common.{ℕ, codes, refl, Option}
+use Rattle.std.proofs.Common.{ℕ, refl, Option}
 use Rattle.ih_dates.specs.declared.dates.Date.{Date}
 use Rattle.ih_tables.specs.declared.drafts.Draft.{Draft}
 use Rattle.ih_tables.specs.declared.drafts.Patient.{Patient}
@@ -9,7 +9,7 @@ use Rattle.ih_validate.specs.declared.surgery.Resource.TheVariants.{OfTheatre, O
 use Rattle.ih_validate.specs.Surgery.{one_of}
 use Rattle.ih_validate.specs.declared.surgery.ResourceKind.{ResourceKind}
 use Rattle.ih_validate.specs.declared.surgery.ResourceKind.TheVariants.{Theatres, Surgeons}
-use Rattle.ih_page.specs.DayHeads.{day_head, heads_and_days}
+use Rattle.ih_page.specs.DayHeads.{table_head}
 use Rattle.ih_page.specs.Html.{numbered}
 use Rattle.ih_page.specs.Rooms.{marked, anchor_text, td_at}
 use Rattle.ih_page.specs.Surgery.{resource_name, percent_text, minutes_text, name_link, operation, surgery_td, heads_of}
@@ -17,7 +17,7 @@ use Rattle.ih_page.proofs.Scans.{GivesId, Own, all-below, if-any, by_pieces}
 use Rattle.ih_page.proofs.NamesAndNumbers.{names_and_numbers}
 use Rattle.ih_page.proofs.IdNumbers.{two_numbers}
 use Rattle.ih_page.proofs.RoomTags.{theatre-name, surgeon-name}
-use Rattle.ih_page.proofs.DayTags.{day}
+use Rattle.ih_page.proofs.DayTags.{day-heads}
 
 pub resource : (I : Draft) (w : Resource) → Own (resource_name I w)
 resource I (OfTheatre t) = theatre-name I t.0
@@ -48,6 +48,5 @@ heads : (kind : ResourceKind) → Own (heads_of kind)
 heads Theatres ids = refl
 heads Surgeons ids = refl
 
-pub surgery-heads : (I : Draft) (first : Option Date) (kind : ResourceKind) → Own (heads_and_days I first (heads_of kind) (codes "<th>"))
-unfolding heads_and_days
-surgery-heads I first kind ids = simp (by_pieces, heads kind, all-below (day_head first (codes "<th>")) (day first)) refl
+pub surgery-heads : (I : Draft) (first : Option Date) (kind : ResourceKind) → Own (table_head I first (heads_of kind))
+surgery-heads I first kind = day-heads I first (heads_of kind) (heads kind)

@@ -1,6 +1,6 @@
 -- The tags of what breaks rules and what costs are the page's own, and each list's head gives its id.
-use Rattle.std.proofs.Common.{ℕ, ◌+◌, Bool, List, refl, Option}
-use Rattle.std.specs.Prelude.{slice_get, slice_index}
+use Rattle.std.proofs.Common.{ℕ, ◌+◌, Bool, List, codes, refl, Option}
+use Rattle.std.specs.Prelude.{slice_index}
 use Rattle.ih_dates.specs.declared.dates.Date.{Date}
 use Rattle.ih_tables.specs.declared.bills.Bill.{Bill}
 use Rattle.ih_tables.specs.declared.cells.Cell.{Cell}
@@ -14,14 +14,14 @@ use Rattle.ih_page.specs.Html.{labelled}
 use Rattle.ih_page.specs.Summary.{line_text}
 use Rattle.ih_page.specs.BillLines.{rule_one, cost_one, rule_many, cost_many, amount_text}
 use Rattle.ih_page.specs.Rooms.{anchor_text}
-use Rattle.ih_page.specs.CellNames.{patient_name, occupant_name, room_label, person_name, room_name, shift_name}
+use Rattle.ih_page.specs.CellNames.{patient_name, occupant_name, person_name, shift_behind, shift_name}
 use Rattle.ih_page.specs.Wrong.{cell_link, item, item_at, list_name, list_head, items_of}
 use Rattle.ih_page.proofs.Scans.{GivesId, Own, all-of, if-any, by_pieces}
 use Rattle.ih_page.proofs.NamesAndNumbers.{names_and_numbers}
 use Rattle.ih_page.proofs.IdNumbers.{one_number}
-use Rattle.ih_page.proofs.DayTags.{day-in-line}
+use Rattle.ih_page.proofs.DayTags.{day-at-start, day-in-line}
 use Rattle.ih_page.proofs.SummaryTags.{rule-name, cost-name}
-use Rattle.ih_page.proofs.RoomTags.{theatre-name, surgeon-name, shift-name, nurse-name}
+use Rattle.ih_page.proofs.RoomTags.{room-name, theatre-name, surgeon-name, shift-name, nurse-name}
 
 -- what an amount is of
 
@@ -57,21 +57,21 @@ person I x ids =
       if-any occupant_name (λ a ids. simp (by_pieces, names_and_numbers) refl),
     ) refl
 
-pub room : (I : Draft) (r : ℕ) → Own (room_name I r)
-unfolding room_name
-room I r = if-any room_label (λ a ids. simp (by_pieces, names_and_numbers) refl) (slice_get I.rooms r)
-
 shift : (I : Draft) (first : Option Date) (k : ℕ) → Own (shift_name I first k)
-unfolding shift_name
+unfolding shift_behind
 shift I first k ids = simp (by_pieces, day-in-line, shift-name) refl
+
+pub shift-at-start : (I : Draft) (first : Option Date) (k : ℕ) → Own (shift_behind (codes "day ") I first k)
+unfolding shift_behind
+shift-at-start I first k ids = simp (by_pieces, day-at-start, shift-name) refl
 
 pub link : (I : Draft) (first : Option Date) (c : Cell) → Own (cell_link I first c)
 unfolding cell_link labelled anchor_text
 link I first (Stay p) ids = simp (by_pieces, names_and_numbers, person) refl
-link I first (RoomDay r d) ids = simp (by_pieces, names_and_numbers, room, day-in-line) refl
+link I first (RoomDay r d) ids = simp (by_pieces, names_and_numbers, room-name, day-in-line) refl
 link I first (TheatreDay t d) ids = simp (by_pieces, names_and_numbers, theatre-name, day-in-line) refl
 link I first (SurgeonDay s d) ids = simp (by_pieces, names_and_numbers, surgeon-name, day-in-line) refl
-link I first (RoomShift r k) ids = simp (by_pieces, names_and_numbers, room, shift) refl
+link I first (RoomShift r k) ids = simp (by_pieces, names_and_numbers, room-name, shift) refl
 link I first (NurseShift n k) ids = simp (by_pieces, names_and_numbers, nurse-name, shift) refl
 link I first (Care x) ids = simp (by_pieces, names_and_numbers, person) refl
 

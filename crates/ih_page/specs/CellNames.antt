@@ -7,11 +7,10 @@ use Rattle.ih_tables.specs.declared.cells.Cell.TheVariants.{Stay, RoomDay, Theat
 use Rattle.ih_tables.specs.declared.drafts.Draft.{Draft}
 use Rattle.ih_tables.specs.declared.drafts.Occupant.{Occupant}
 use Rattle.ih_tables.specs.declared.drafts.Patient.{Patient}
-use Rattle.ih_tables.specs.declared.drafts.Room.{Room}
 use Rattle.ih_tables.specs.Sizes.{patient_count}
-use Rattle.ih_page.specs.DayHeads.{day_text}
+use Rattle.ih_page.specs.DayHeads.{day_behind, day_text}
 use Rattle.ih_page.specs.Html.{isolated, labelled}
-use Rattle.ih_page.specs.Rooms.{theatre_name, surgeon_name, anchor_text, shift_type_name, nurse_name}
+use Rattle.ih_page.specs.Rooms.{room_name, theatre_name, surgeon_name, anchor_text, shift_type_name, nurse_name}
 
 -- the row of a person
 abbrev pub person_anchor : ℕ → List ℕ
@@ -32,25 +31,23 @@ patient_name a = codes "patient " ++ isolated a.id
 abbrev pub occupant_name : Occupant → List ℕ
 occupant_name a = codes "occupant " ++ isolated a.id
 
-abbrev pub room_label : Room → List ℕ
-room_label a = codes "room " ++ isolated a.id
-
 unfoldable pub person_name : Draft → ℕ → List ℕ
 person_name I x =
     if nat_lt x (patient_count I) then option_map_or patient_name (slice_get I.patients x) []
     else option_map_or occupant_name (slice_get I.occupants (x - patient_count I)) []
 
-unfoldable pub room_name : Draft → ℕ → List ℕ
-room_name I r = option_map_or room_label (slice_get I.rooms r) []
+-- the day of shift k behind a text, and the shift's type
+unfoldable pub shift_behind : List ℕ → Draft → Option Date → ℕ → List ℕ
+shift_behind text I first k = day_behind text first (k / 3) ++ (codes ", " ++ shift_type_name I (k % 3))
 
-unfoldable pub shift_name : Draft → Option Date → ℕ → List ℕ
-shift_name I first k = day_text first (k / 3) ++ (codes ", " ++ shift_type_name I (k % 3))
+abbrev pub shift_name : Draft → Option Date → ℕ → List ℕ
+shift_name I first k = shift_behind (codes ", day ") I first k
 
 abbrev pub cell_text : Draft → Option Date → Cell → List ℕ
 cell_text I first (Stay p) = person_name I p.0
-cell_text I first (RoomDay r d) = room_name I r.0 ++ day_text first d.0
+cell_text I first (RoomDay r d) = codes "room " ++ (room_name I r.0 ++ day_text first d.0)
 cell_text I first (TheatreDay t d) = codes "theatre " ++ (theatre_name I t.0 ++ day_text first d.0)
 cell_text I first (SurgeonDay s d) = codes "surgeon " ++ (surgeon_name I s.0 ++ day_text first d.0)
-cell_text I first (RoomShift r k) = room_name I r.0 ++ shift_name I first k.0
+cell_text I first (RoomShift r k) = codes "room " ++ (room_name I r.0 ++ shift_name I first k.0)
 cell_text I first (NurseShift n k) = codes "nurse " ++ (nurse_name I (Some n.0) ++ shift_name I first k.0)
 cell_text I first (Care x) = person_name I x.0

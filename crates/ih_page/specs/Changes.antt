@@ -5,7 +5,6 @@ use Rattle.std.specs.Fmt.{signed_decimal}
 use Rattle.ih_dates.specs.declared.dates.Date.{Date}
 use Rattle.ih_tables.specs.declared.bills.Bill.{Bill}
 use Rattle.ih_tables.specs.declared.bills.Weights.{Weights}
-use Rattle.ih_tables.specs.declared.cells.Cell.TheVariants.{RoomShift}
 use Rattle.ih_tables.specs.declared.drafts.Draft.{Draft}
 use Rattle.ih_tables.specs.Bills.{at, cost, signed_sum}
 use Rattle.ih_tables.specs.Sizes.{patient_count, room_count, shift_count}
@@ -14,12 +13,11 @@ use Rattle.ih_plan.specs.BillOf.{bill_of}
 use Rattle.ih_plan.specs.Sums.{count_below, which_below}
 use Rattle.ih_plan.specs.Timetable.{Timetable, stay_of, care_of}
 use Rattle.ih_validate.specs.Report.{lines_below}
-use Rattle.ih_page.specs.CellNames.{room_name}
+use Rattle.ih_page.specs.CellNames.{shift_behind}
 use Rattle.ih_page.specs.PatientIndex.{place_text}
-use Rattle.ih_page.specs.Rooms.{nurse_name}
-use Rattle.ih_page.specs.Summary.{cost_name, line_text}
+use Rattle.ih_page.specs.Rooms.{anchor_text, nurse_name, room_name}
+use Rattle.ih_page.specs.Summary.{cost_name, line_text, whole_head}
 use Rattle.ih_page.specs.Surgery.{patient_link}
-use Rattle.ih_page.specs.Wrong.{cell_link}
 
 -- ---- patients
 
@@ -75,10 +73,16 @@ is_changed_room I O P r = not (changed_shift_count I O P r == 0)
 abbrev pub changed_room_count : Draft → Timetable → Timetable → ℕ
 changed_room_count I O P = count_below (room_count I) (is_changed_room I O P)
 
--- room r and shift k, which leads to where its nurse stands, the nurse before and the nurse now
+-- shift k, which leads to where room r's nurse stands
+unfoldable pub shift_link : Draft → Option Date → ℕ → ℕ → List ℕ
+shift_link I first r k =
+    codes "<li><a href=#"
+    ++ (anchor_text (codes "s") r k ++ (codes ">" ++ (shift_behind (codes "day ") I first k ++ codes "</a>: ")))
+
+-- the same, room r's nurse before and the nurse now
 abbrev pub shift_item : Draft → Option Date → Timetable → Timetable → ℕ → ℕ → List ℕ
 shift_item I first O P r k =
-    cell_link I first (RoomShift (record { 0 = r }) (record { 0 = k }))
+    shift_link I first r k
     ++ (codes "was " ++ (nurse_name I (care_of O r k) ++ (codes ", now " ++ (nurse_name I (care_of P r k) ++ codes "\n"))))
 
 unfoldable pub shift_items : Draft → Option Date → Timetable → Timetable → ℕ → List ℕ
@@ -133,7 +137,7 @@ broken_row b c =
 unfoldable pub changed_costs : Weights → Bill → Bill → List ℕ
 changed_costs w b c =
     broken_row b c
-    ++ (part_rows w b c ++ (codes "<tr><th>cost<td>all parts" ++ (costs_text (cost w b) (cost w c) ++ codes "</table>\n")))
+    ++ (part_rows w b c ++ (whole_head ++ (costs_text (cost w b) (cost w c) ++ codes "</table>\n")))
 
 -- ---- the section
 

@@ -42,6 +42,10 @@ day_text first d = day_behind (codes ", day ") first d
 unfoldable pub day_head : Option Date → List ℕ → ℕ → List ℕ
 day_head first tag d = labelled tag d ++ dated_if first d
 
--- the heads of a table's columns, of which the last are the days, each with this tag
+-- a row of heads, of which the last are the days, each with this tag
 unfoldable pub heads_and_days : Draft → Option Date → List ℕ → List ℕ → List ℕ
-heads_and_days I first heads tag = heads ++ (lines_below I.days (day_head first tag) ++ codes "\n")
+heads_and_days I first heads tag = heads ++ lines_below I.days (day_head first tag)
+
+-- the head of a table whose last columns are the days, a row that stands again on each sheet
+unfoldable pub table_head : Draft → Option Date → List ℕ → List ℕ
+table_head I first heads = heads_and_days I first heads (codes "<th>") ++ codes "</thead>\n"

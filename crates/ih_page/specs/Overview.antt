@@ -12,9 +12,8 @@ use Rattle.ih_validate.specs.Surgery.{count_of, limit_of, one_of}
 use Rattle.ih_validate.specs.declared.surgery.ResourceKind.TheVariants.{Theatres}
 use Rattle.ih_validate.specs.declared.surgery.Resource.{Resource}
 use Rattle.ih_page.specs.Html.{labelled}
-use Rattle.ih_page.specs.CellNames.{room_name}
-use Rattle.ih_page.specs.DayHeads.{heads_and_days}
-use Rattle.ih_page.specs.Rooms.{anchor_text, head_count, nurse_name, shift_type_name}
+use Rattle.ih_page.specs.DayHeads.{table_head}
+use Rattle.ih_page.specs.Rooms.{anchor_text, head_count, nurse_name, room_name, shift_type_name}
 use Rattle.ih_page.specs.Surgery.{letter_of, number_of, percent_of, planned, resource_name}
 
 -- how full it is, in quarters: 0 where it is empty, 4 in the last quarter
@@ -57,7 +56,7 @@ surgery_share I P w d = share_td (letter_of w) (number_of w) d (limit_of I w d) 
 
 unfoldable pub surgery_shares : Draft → Timetable → Resource → List ℕ
 surgery_shares I P w =
-    codes "<tr><th>theatre " ++ (resource_name I w ++ (lines_below I.days (surgery_share I P w) ++ codes "\n"))
+    codes "<tr><th>" ++ (resource_name I w ++ (lines_below I.days (surgery_share I P w) ++ codes "\n"))
 
 -- a nurse's name, which leads to the workload of shift k
 unfoldable pub nurse_link : Draft → ℕ → ℕ → List ℕ
@@ -66,7 +65,7 @@ nurse_link I n k =
 
 -- a nurse, and by how much the workload of shift k is above the maximum
 unfoldable pub excess_text : Draft → ℕ → ℕ → ℕ → List ℕ
-excess_text I n k excess = nurse_link I n k ++ (codes " +" ++ (decimal excess ++ codes "<br>"))
+excess_text I n k excess = nurse_link I n k ++ (codes "&nbsp;+" ++ (decimal excess ++ codes "<br>"))
 
 -- the same where the shift is worked and the workload is above its maximum, and nothing elsewhere
 abbrev pub above_text : Draft → ℕ → ℕ → ℕ → Option ℕ → List ℕ
@@ -88,21 +87,20 @@ above_row I P j =
 
 unfoldable pub rooms_overview : Draft → Option Date → Timetable → List ℕ
 rooms_overview I first P =
-    heads_and_days I first
-    (codes "<h2>Overview by days</h2>\n<div><table class=v><tr><th>rooms: persons of capacity") (codes "<th>")
+    table_head I first (codes "<h2>Overview by days</h2>\n<div><table class=v><thead><tr><th>rooms: persons of capacity")
     ++ lines_below (room_count I) (room_shares I P)
 
 unfoldable pub theatres_overview : Draft → Option Date → Timetable → List ℕ
 theatres_overview I first P =
-    heads_and_days I first (codes "<tr><th>theatres: minutes used of minutes open") (codes "<th>")
+    table_head I first (codes "</table>\n<table class=v><thead><tr><th>theatres: minutes used of minutes open")
     ++ lines_below (count_of I Theatres) (λ t. surgery_shares I P (one_of Theatres t))
 
 unfoldable pub nurses_overview : Draft → Option Date → Timetable → List ℕ
 nurses_overview I first P =
-    heads_and_days I first (codes "<tr><th>nurses above their maximum workload") (codes "<th>")
+    table_head I first (codes "</table>\n<table class=v><thead><tr><th>nurses above their maximum workload")
     ++ lines_below 3 (above_row I P)
 
--- the overview: rooms, theatres and nurses, in one table with a column for each day
+-- the overview: tables of rooms, of theatres and of nurses, with a column for each day
 unfoldable pub overview : Draft → Option Date → Timetable → List ℕ
 overview I first P =
     rooms_overview I first P ++ (theatres_overview I first P ++ (nurses_overview I first P ++ codes "</table></div>\n"))

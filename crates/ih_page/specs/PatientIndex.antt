@@ -6,15 +6,15 @@ use Rattle.ih_tables.specs.Sizes.{patient_count}
 use Rattle.ih_plan.specs.declared.moves.Placement.{Placement}
 use Rattle.ih_plan.specs.Timetable.{Timetable, stay_of}
 use Rattle.ih_validate.specs.Report.{lines_below}
-use Rattle.ih_page.specs.CellNames.{room_name}
 use Rattle.ih_page.specs.DayHeads.{day_text}
-use Rattle.ih_page.specs.Rooms.{theatre_name}
+use Rattle.ih_page.specs.Rooms.{room_name, theatre_name}
 use Rattle.ih_page.specs.Surgery.{patient_link}
 
 -- where an admitted patient is: a room, a day and a theatre
 unfoldable pub placement_text : Draft → Option Date → Placement → List ℕ
 placement_text I first at =
-    room_name I at.room.0 ++ (day_text first at.day.0 ++ (codes ", theatre " ++ (theatre_name I at.theatre.0 ++ codes "\n")))
+    codes "room " ++ (room_name I at.room.0
+    ++ (day_text first at.day.0 ++ (codes ", theatre " ++ (theatre_name I at.theatre.0 ++ codes "\n"))))
 
 -- that place, or that the patient is left out
 abbrev pub place_text : Draft → Option Date → Option Placement → List ℕ

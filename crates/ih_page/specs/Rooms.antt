@@ -17,12 +17,16 @@ use Rattle.ih_plan.specs.Presence.{is_present}
 use Rattle.ih_plan.specs.Costs.{capacity_of}
 use Rattle.ih_plan.specs.Sums.{count_below}
 use Rattle.ih_validate.specs.Report.{lines_below}
-use Rattle.ih_page.specs.DayHeads.{heads_and_days}
+use Rattle.ih_page.specs.DayHeads.{table_head}
 use Rattle.ih_page.specs.Html.{isolated, labelled, numbered}
 
 -- the name of an age group
 abbrev pub age_name : Draft → ℕ → List ℕ
 age_name I g = option_map_or isolated (slice_get I.age_groups g) []
+
+-- the name of a room
+abbrev pub room_name : Draft → ℕ → List ℕ
+room_name I r = option_map_or (λ (a : Room). isolated a.id) (slice_get I.rooms r) []
 
 -- the name of a theatre
 abbrev pub theatre_name : Draft → ℕ → List ℕ
@@ -166,7 +170,7 @@ room_title r a =
 
 unfoldable pub room_head : Draft → Option Date → ℕ → Room → List ℕ
 room_head I first r a =
-    room_title r a ++ heads_and_days I first (codes "<div><table><tr><th>person<th>gender<th>age<th>theatre") (codes "<th>")
+    room_title r a ++ table_head I first (codes "<div><table><thead><tr><th>person<th>gender<th>age<th>theatre")
 
 -- how many are in a room, by days
 unfoldable pub count_row : Draft → Timetable → ℕ → List ℕ
@@ -187,7 +191,7 @@ room_text I first P r =
 -- what the signs of the tables mean
 unfoldable pub legend : List ℕ
 legend =
-    codes "<p>* mandatory; bar: days of stay and gender; &rarr; past the last day; thin line: delay since release</p>\n"
+    codes "<p>* mandatory; bar: days of stay and gender, dashed: there from the start; &rarr; past the last day; thin line: delay since release; ! above the capacity; - no nurse</p>\n"
 
 unfoldable pub rooms_text : Draft → Option Date → Timetable → List ℕ
 rooms_text I first P =

@@ -15,7 +15,7 @@ use Rattle.ih_validate.specs.declared.surgery.ResourceKind.TheVariants.{Theatres
 use Rattle.ih_validate.specs.declared.surgery.Resource.{Resource}
 use Rattle.ih_validate.specs.declared.surgery.Resource.TheVariants.{OfTheatre, OfSurgeon}
 use Rattle.ih_page.specs.Html.{numbered}
-use Rattle.ih_page.specs.DayHeads.{heads_and_days}
+use Rattle.ih_page.specs.DayHeads.{table_head}
 use Rattle.ih_page.specs.Rooms.{theatre_name, surgeon_name, marked, td_at}
 
 -- the minutes of patient p's surgery, where it is there on day d
@@ -79,11 +79,11 @@ unfoldable pub surgery_row : Draft → Timetable → Resource → List ℕ
 surgery_row I P w = codes "<tr><th>" ++ (resource_name I w ++ (lines_below I.days (surgery_td I P w) ++ codes "\n"))
 
 abbrev pub heads_of : ResourceKind → List ℕ
-heads_of Theatres = codes "<h2>Theatres by days, in minutes</h2>\n<div><table><tr><th>theatre"
-heads_of Surgeons = codes "<h2>Surgeons by days, in minutes</h2>\n<div><table><tr><th>surgeon"
+heads_of Theatres = codes "<h2>Theatres by days, in minutes</h2>\n<div><table><thead><tr><th>theatre"
+heads_of Surgeons = codes "<h2>Surgeons by days, in minutes</h2>\n<div><table><thead><tr><th>surgeon"
 
 -- the table of the theatres, or of the surgeons
 unfoldable pub surgery_text : Draft → Option Date → Timetable → ResourceKind → List ℕ
 surgery_text I first P kind =
-    heads_and_days I first (heads_of kind) (codes "<th>")
+    table_head I first (heads_of kind)
     ++ (lines_below (count_of I kind) (λ i. surgery_row I P (one_of kind i)) ++ codes "</table></div>\n")

@@ -77,7 +77,8 @@ abbrev pub own_forms : List (List ℕ)
 own_forms =
     codes "h9" ∷ codes "/h9" ∷ codes "h9 id=wrong" ∷ codes "h9 id=left" ∷ codes "h9 id=index" ∷ codes "h9 id=changes" ∷ codes "section"
     ∷ codes "/section" ∷ codes "h9 id=r9" ∷ codes "p" ∷ codes "p class=m" ∷ codes "/p" ∷ codes "div" ∷ codes "/div" ∷ codes "table"
-    ∷ codes "table class=s" ∷ codes "table class=v" ∷ codes "table class=c" ∷ codes "/table" ∷ codes "tr"
+    ∷ codes "table class=s" ∷ codes "table class=v" ∷ codes "table class=c" ∷ codes "/table" ∷ codes "thead"
+    ∷ codes "/thead" ∷ codes "tr"
     ∷ codes "tr id=p9" ∷ codes "tr class=g id=p9" ∷ codes "tr class=q id=p9" ∷ codes "li id=p9" ∷ codes "b"
     ∷ codes "/b" ∷ codes "tr class=o id=p9" ∷ codes "th" ∷ codes "th colspan=9" ∷ codes "td class=f9"
     ∷ codes "td class=x" ∷ codes "td class=c9 style=width:9%" ∷ codes "br" ∷ codes "td" ∷ codes "td colspan=9"

@@ -3,12 +3,12 @@
 ghost use Rattle.std.specs.Prelude.{◌≡◌, ◌<◌, ◌++◌, OnOk, codes};
 ghost use Rattle.ih_tables.specs.Sizes.{person_count, room_count, theatre_count, surgeon_count, nurse_count};
 ghost use Rattle.ih_plan.specs.Cells.{IsCellOf};
-ghost use Rattle.ih_page.specs.CellNames.{cell_anchor, person_name, room_name, shift_name, cell_text};
+ghost use Rattle.ih_page.specs.CellNames.{cell_anchor, person_name, shift_behind, shift_name, cell_text};
 ghost use Rattle.ih_page.specs.DayHeads.{day_text};
-ghost use Rattle.ih_page.specs.Rooms.{theatre_name, surgeon_name, nurse_name};
+ghost use Rattle.ih_page.specs.Rooms.{room_name, theatre_name, surgeon_name, nurse_name};
 
-use crate::day_heads::put_day;
-use crate::names::{put_anchor, put_nurse, put_shift_type, put_surgeon, put_theatre};
+use crate::day_heads::{put_day, put_day_behind};
+use crate::names::{put_anchor, put_nurse, put_room, put_shift_type, put_surgeon, put_theatre};
 use crate::shown::Shown;
 use crate::texts::{Put, put, put_isolated, put_labelled};
 use ih_tables::{Cell, Day, Instance, NurseNo, PatientNo, RoomNo, Shift, SurgeonNo, TheatreNo};
@@ -43,30 +43,30 @@ fn put_person(out: &mut Vec<u8>, inst: &Instance, person: u32) -> Put
     }
 }
 
-/// Appends the name of a room.
-#[tactic(auto, unfolding(crate::specs::CellNames::room_name))]
-pub fn put_room(out: &mut Vec<u8>, inst: &Instance, room: RoomNo) -> Put
-    requires { room.0 < room_count inst.now.draft }
-    ensures { OnOk result (out.new.items ≡ out.old.items ++ room_name inst.now.draft room.0) }
+/// Appends the day of a shift behind a text, and the shift's type.
+#[tactic(auto, unfolding(crate::specs::CellNames::shift_behind))]
+pub fn put_shift_behind(out: &mut Vec<u8>, shown: &Shown<'_>, text: &str, shift: u32) -> Put
+    ensures { OnOk result (out.new.items
+        ≡ out.old.items ++ shift_behind text.now shown.now.inst.now.draft shown.now.first shift) }
 {
-    put(out, "room ")?;
-    put_isolated(out, inst.room(room).id.as_str())
+    put_day_behind(out, shown, text, shift / 3)?;
+    put(out, ", ")?;
+    put_shift_type(out, shown.inst, shift % 3)
 }
 
-#[tactic(auto, unfolding(crate::specs::CellNames::shift_name))]
 fn put_shift(out: &mut Vec<u8>, shown: &Shown<'_>, shift: u32) -> Put
     ensures { OnOk result (out.new.items ≡ out.old.items ++ shift_name shown.now.inst.now.draft shown.now.first shift) }
 {
-    put_day(out, shown, shift / 3)?;
-    put(out, ", ")?;
-    put_shift_type(out, shown.inst, shift % 3)
+    put_shift_behind(out, shown, ", day ", shift)
 }
 
 fn put_room_day(out: &mut Vec<u8>, shown: &Shown<'_>, room: RoomNo, day: Day) -> Put
     requires { room.0 < room_count shown.now.inst.now.draft }
     ensures { OnOk result (out.new.items
-        ≡ out.old.items ++ (room_name shown.now.inst.now.draft room.0 ++ day_text shown.now.first day.0)) }
+        ≡ out.old.items
+        ++ (codes "room " ++ (room_name shown.now.inst.now.draft room.0 ++ day_text shown.now.first day.0))) }
 {
+    put(out, "room ")?;
     put_room(out, shown.inst, room)?;
     put_day(out, shown, day.0)
 }
@@ -95,11 +95,12 @@ fn put_surgeon_day(out: &mut Vec<u8>, shown: &Shown<'_>, surgeon: SurgeonNo, day
 
 fn put_room_shift(out: &mut Vec<u8>, shown: &Shown<'_>, room: RoomNo, shift: Shift) -> Put
     requires { room.0 < room_count shown.now.inst.now.draft }
-    ensures { OnOk result
-        (out.new.items
-        ≡ out.old.items
-        ++ (room_name shown.now.inst.now.draft room.0 ++ shift_name shown.now.inst.now.draft shown.now.first shift.0)) }
+    ensures { OnOk result (out.new.items ≡ out.old.items
+        ++ (codes "room "
+        ++ (room_name shown.now.inst.now.draft room.0
+        ++ shift_name shown.now.inst.now.draft shown.now.first shift.0))) }
 {
+    put(out, "room ")?;
     put_room(out, shown.inst, room)?;
     put_shift(out, shown, shift.0)
 }

@@ -22,19 +22,19 @@ ghost use Rattle.ih_page.specs.Changes.{broken, broken_row, change_item, changed
 ghost use Rattle.ih_page.specs.Changes.{changed_patient_count, changed_room_count, changed_shift_count, changes};
 ghost use Rattle.ih_page.specs.Changes.{changes_head, changes_since, cost_td, costs_text, counts_or_nothing};
 ghost use Rattle.ih_page.specs.Changes.{counts_text, fold_of, has_another, is_changed, is_changed_room, is_same_nurse};
-ghost use Rattle.ih_page.specs.Changes.{is_same_stay, part_row, part_rows, shift_item, shift_items, shifts_head};
-ghost use Rattle.ih_page.specs.Changes.{shifts_if, shifts_list};
+ghost use Rattle.ih_page.specs.Changes.{is_same_stay, part_row, part_rows, shift_item, shift_items, shift_link};
+ghost use Rattle.ih_page.specs.Changes.{shifts_head, shifts_if, shifts_list};
 
-use crate::cell_names::put_room;
+use crate::cell_names::put_shift_behind;
+use crate::names::{put_anchor, put_room};
 use crate::patient_index::put_place;
 use crate::rooms::put_nurse_in;
-use crate::shown::{Compared, Priced};
-use crate::summaries::{cost_name, put_line};
+use crate::shown::{Compared, Priced, Shown};
+use crate::summaries::{cost_name, put_line, whole_head};
 use crate::surgery::put_link;
 use crate::texts::{Put, put, put_number, put_signed};
-use crate::wrong::put_cell_link;
 use ih_plan::{Placement, Plan};
-use ih_tables::{Bill, Cell, Instance, NurseNo, PatientNo, RoomNo, Shift, times};
+use ih_tables::{Bill, Instance, NurseNo, PatientNo, RoomNo, Shift, times};
 use ih_validate::{bill, bit};
 
 // Whether the day, the room and the theatre are the same, or the patient is left out both times.
@@ -174,6 +174,19 @@ fn changed_room_count(both: &Compared<'_>) -> u64
     count
 }
 
+// The shift, which leads to where the room's nurse stands.
+#[tactic(auto, unfolding(crate::specs::Changes::shift_link))]
+fn put_shift_link(out: &mut Vec<u8>, shown: &Shown<'_>, room: u32, shift: u32) -> Put
+    ensures { OnOk result (out.new.items
+        ≡ out.old.items ++ shift_link shown.now.inst.now.draft shown.now.first room shift) }
+{
+    put(out, "<li><a href=#")?;
+    put_anchor(out, "s", room, shift)?;
+    put(out, ">")?;
+    put_shift_behind(out, shown, "day ", shift)?;
+    put(out, "</a>: ")
+}
+
 // The nurse of the room in the shift before, and the nurse now.
 fn put_shift(out: &mut Vec<u8>, both: &Compared<'_>, room: u32, shift: u32) -> Put
     requires room { room < room_count both.now.shown.now.inst.now.draft }
@@ -182,7 +195,7 @@ fn put_shift(out: &mut Vec<u8>, both: &Compared<'_>, room: u32, shift: u32) -> P
         ++ shift_item shown.inst.now.draft shown.first both.now.older.now shown.plan.now room shift) }
 {
     let shown = both.shown;
-    put_cell_link(out, shown, Cell::RoomShift(RoomNo(room), Shift(shift)))?;
+    put_shift_link(out, shown, room, shift)?;
     put(out, "was ")?;
     put_nurse_in(out, shown.inst, both.older, room, shift)?;
     put(out, ", now ")?;
@@ -355,7 +368,7 @@ fn put_costs(out: &mut Vec<u8>, inst: &Instance, before: &Bill, after: &Bill) ->
     let weights = inst.weights();
     put_broken(out, before, after)?;
     put_parts(out, inst, before, after)?;
-    put(out, "<tr><th>cost<td>all parts")?;
+    put(out, whole_head())?;
     put_two(out, before.cost(weights), after.cost(weights))?;
     put(out, "</table>\n")
 }

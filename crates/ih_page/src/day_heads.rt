@@ -3,7 +3,7 @@
 ghost use Rattle.std.specs.Prelude.{◌≡◌, ◌++◌, OnOk};
 ghost use Rattle.ih_dates.specs.Calendar.{IsDate};
 ghost use Rattle.ih_page.specs.DayHeads.{beside_if, date_text, dated_below, dated_beside, dated_if, dated_text};
-ghost use Rattle.ih_page.specs.DayHeads.{day_behind, day_head, day_text, heads_and_days};
+ghost use Rattle.ih_page.specs.DayHeads.{day_behind, day_head, day_text, heads_and_days, table_head};
 
 use crate::shown::Shown;
 use crate::texts::{Put, put, put_labelled, put_number};
@@ -90,7 +90,7 @@ fn put_day_head(out: &mut Vec<u8>, shown: &Shown<'_>, tag: &str, day: u32) -> Pu
     put_dated_if(out, shown, day)
 }
 
-/// Appends the heads of a table's columns, of which the last are the days, each with this tag.
+/// Appends a row of heads, of which the last are the days, each with this tag.
 #[tactic(auto, unfolding(crate::specs::DayHeads::heads_and_days))]
 pub fn put_heads_and_days(out: &mut Vec<u8>, shown: &Shown<'_>, heads: &str, tag: &str) -> Put
     ensures { OnOk result (out.new.items
@@ -100,5 +100,15 @@ pub fn put_heads_and_days(out: &mut Vec<u8>, shown: &Shown<'_>, heads: &str, tag
     for d in 0..shown.inst.days() {
         put_day_head(out, shown, tag, d)?;
     }
-    put(out, "\n")
+    Ok(())
+}
+
+/// Appends the head of a table whose last columns are the days: a row that stands again on each sheet.
+#[tactic(auto, unfolding(crate::specs::DayHeads::table_head))]
+pub fn put_table_head(out: &mut Vec<u8>, shown: &Shown<'_>, heads: &str) -> Put
+    ensures { OnOk result (out.new.items
+        ≡ out.old.items ++ table_head shown.now.inst.now.draft shown.now.first heads.now) }
+{
+    put_heads_and_days(out, shown, heads, "<th>")?;
+    put(out, "</thead>\n")
 }

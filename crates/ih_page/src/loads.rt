@@ -10,8 +10,8 @@ use ih_plan::{Plan, is_present, workload_of};
 use ih_tables::{Instance, NurseNo, RoomNo, Shift};
 use ih_validate::bit;
 
-// Whether the room is the nurse's in the shift.
-fn is_given(inst: &Instance, plan: &Plan, nurse: NurseNo, shift: u32, room: RoomNo) -> bool
+/// Whether the room is the nurse's in the shift.
+pub fn is_given(inst: &Instance, plan: &Plan, nurse: NurseNo, shift: u32, room: RoomNo) -> bool
     requires plan { IsPlanOf inst.now.draft plan.now }
     requires room { room.0 < room_count inst.now.draft }
     requires shift { shift < shift_count inst.now.draft }

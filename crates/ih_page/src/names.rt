@@ -4,14 +4,15 @@ ghost use Rattle.std.specs.Prelude.{◌≡◌, ◌<◌, ◌++◌, OnOk, option_m
 ghost use Rattle.ih_tables.specs.{
   declared.ids.NurseNo.NurseNo,
   Sizes.nurse_count,
+  Sizes.room_count,
   Sizes.surgeon_count,
   Sizes.theatre_count,
 };
-ghost use Rattle.ih_page.specs.Rooms.{age_name, theatre_name, surgeon_name, shift_type_name, nurse_name};
+ghost use Rattle.ih_page.specs.Rooms.{age_name, room_name, theatre_name, surgeon_name, shift_type_name, nurse_name};
 ghost use Rattle.ih_page.specs.Rooms.{marked, anchor_text, td_at};
 
 use crate::texts::{Put, put, put_isolated, put_number};
-use ih_tables::{Instance, NurseNo, SurgeonNo, TheatreNo};
+use ih_tables::{Instance, NurseNo, RoomNo, SurgeonNo, TheatreNo};
 
 /// Appends the name of an age group.
 pub fn put_age(out: &mut Vec<u8>, inst: &Instance, age: u32) -> Put
@@ -30,6 +31,14 @@ pub fn put_shift_type(out: &mut Vec<u8>, inst: &Instance, shift_type: u32) -> Pu
     ensures { OnOk result (out.new.items ≡ out.old.items ++ shift_type_name inst.now.draft shift_type) }
 {
     put_isolated(out, inst.shift_type(shift_type).as_str())
+}
+
+/// Appends the name of a room.
+pub fn put_room(out: &mut Vec<u8>, inst: &Instance, room: RoomNo) -> Put
+    requires { room.0 < room_count inst.now.draft }
+    ensures { OnOk result (out.new.items ≡ out.old.items ++ room_name inst.now.draft room.0) }
+{
+    put_isolated(out, inst.room(room).id.as_str())
 }
 
 /// Appends the name of a theatre.

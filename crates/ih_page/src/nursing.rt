@@ -1,16 +1,16 @@
 //! Nurses by shifts.
 
 ghost use Rattle.std.specs.Prelude.{◌≡◌, ◌<◌, ◌++◌, OnOk};
-ghost use Rattle.ih_tables.specs.Sizes.{nurse_count, shift_count};
-ghost use Rattle.ih_page.specs.Nursing.{off_text, worked_text, load_text, load_td, nurse_head, nurse_row, nurses_text};
-ghost use Rattle.ih_page.specs.Nursing.{shift_head, shift_heads};
+ghost use Rattle.ih_tables.specs.Sizes.{nurse_count, room_count, shift_count};
+ghost use Rattle.ih_page.specs.Nursing.{off_text, worked_text, load_text, load_start, load_td, nurse_head, nurse_row};
+ghost use Rattle.ih_page.specs.Nursing.{nurses_text, room_below, room_line, rooms_below, shift_head, shift_heads};
 
 use crate::day_heads::put_heads_and_days;
-use crate::loads::{given_rooms, load_of};
-use crate::names::{put_marked, put_shift_type, put_td_at};
+use crate::loads::{given_rooms, is_given, load_of};
+use crate::names::{put_marked, put_room, put_shift_type, put_td_at};
 use crate::shown::Shown;
 use crate::texts::{Put, put, put_isolated, put_number};
-use ih_tables::{Nurse, NurseNo, Shift};
+use ih_tables::{Instance, Nurse, NurseNo, RoomNo, Shift};
 
 fn put_off(out: &mut Vec<u8>, rooms: u64, load: u64) -> Put
     ensures { OnOk result (out.new.items ≡ out.old.items ++ off_text rooms load) }
@@ -40,11 +40,49 @@ fn put_load(out: &mut Vec<u8>, most: Option<u32>, rooms: u64, load: u64) -> Put
     }
 }
 
-fn put_td(out: &mut Vec<u8>, shown: &Shown<'_>, nurse: u32, shift: u32) -> Put
+// The room in a line of its own.
+#[tactic(auto, unfolding(crate::specs::Nursing::room_line))]
+fn put_room_line(out: &mut Vec<u8>, inst: &Instance, room: u32) -> Put
+    requires { room < room_count inst.now.draft }
+    ensures { OnOk result (out.new.items ≡ out.old.items ++ room_line inst.now.draft room) }
+{
+    put(out, " <br>")?;
+    put_room(out, inst, RoomNo(room))
+}
+
+// The same, where the shift gives the room to the nurse.
+fn put_room_below(out: &mut Vec<u8>, shown: &Shown<'_>, nurse: u32, shift: u32, room: u32) -> Put
+    requires room { room < room_count shown.now.inst.now.draft }
+    requires shift { shift < shift_count shown.now.inst.now.draft }
+    ensures { OnOk result (out.new.items
+        ≡ out.old.items ++ room_below shown.now.inst.now.draft shown.now.plan.now nurse shift room) }
+{
+    if is_given(shown.inst, shown.plan, NurseNo(nurse), shift, RoomNo(room)) {
+        put_room_line(out, shown.inst, room)
+    } else {
+        Ok(())
+    }
+}
+
+// The rooms that the shift gives to the nurse.
+#[tactic(auto, unfolding(crate::specs::Nursing::rooms_below))]
+fn put_rooms_below(out: &mut Vec<u8>, shown: &Shown<'_>, nurse: u32, shift: u32) -> Put
+    requires { shift < shift_count shown.now.inst.now.draft }
+    ensures { OnOk result (out.new.items
+        ≡ out.old.items ++ rooms_below shown.now.inst.now.draft shown.now.plan.now nurse shift) }
+{
+    for r in 0..shown.inst.rooms() {
+        put_room_below(out, shown, nurse, shift, r)?;
+    }
+    Ok(())
+}
+
+// The beginning of a cell: the workload of the nurse in the shift.
+fn put_load_start(out: &mut Vec<u8>, shown: &Shown<'_>, nurse: u32, shift: u32) -> Put
     requires nurse { nurse < nurse_count shown.now.inst.now.draft }
     requires shift { shift < shift_count shown.now.inst.now.draft }
     ensures { OnOk result (out.new.items
-        ≡ out.old.items ++ load_td shown.now.inst.now.draft shown.now.plan.now nurse shift) }
+        ≡ out.old.items ++ load_start shown.now.inst.now.draft shown.now.plan.now nurse shift) }
 {
     put_td_at(out, "n", nurse, shift)?;
     put_load(
@@ -53,6 +91,16 @@ fn put_td(out: &mut Vec<u8>, shown: &Shown<'_>, nurse: u32, shift: u32) -> Put
         given_rooms(shown.inst, shown.plan, NurseNo(nurse), shift),
         load_of(shown.inst, shown.plan, NurseNo(nurse), shift),
     )
+}
+
+fn put_td(out: &mut Vec<u8>, shown: &Shown<'_>, nurse: u32, shift: u32) -> Put
+    requires nurse { nurse < nurse_count shown.now.inst.now.draft }
+    requires shift { shift < shift_count shown.now.inst.now.draft }
+    ensures { OnOk result (out.new.items
+        ≡ out.old.items ++ load_td shown.now.inst.now.draft shown.now.plan.now nurse shift) }
+{
+    put_load_start(out, shown, nurse, shift)?;
+    put_rooms_below(out, shown, nurse, shift)
 }
 
 #[tactic(auto, unfolding(crate::specs::Nursing::nurse_head))]
@@ -90,11 +138,11 @@ fn put_shift_head(out: &mut Vec<u8>, shown: &Shown<'_>, shift: u32) -> Put
 fn put_shift_heads(out: &mut Vec<u8>, shown: &Shown<'_>) -> Put
     ensures { OnOk result (out.new.items ≡ out.old.items ++ shift_heads shown.now.inst.now.draft) }
 {
-    put(out, "<tr><th>shift<th>")?;
+    put(out, "\n<tr><th>shift<th>")?;
     for k in 0..shown.inst.shifts() {
         put_shift_head(out, shown, k)?;
     }
-    put(out, "\n")
+    put(out, "</thead>\n")
 }
 
 /// Appends the table of the nurses.
@@ -106,7 +154,7 @@ pub fn put_nurses(out: &mut Vec<u8>, shown: &Shown<'_>) -> Put
     put_heads_and_days(
         out,
         shown,
-        "<h2>Nurses by shifts: workload of the maximum</h2>\n<div><table><tr><th>nurse<th>skill",
+        "<h2>Nurses by shifts: workload of the maximum, and rooms</h2>\n<div><table><thead><tr><th>nurse<th>skill",
         "<th colspan=3>",
     )?;
     put_shift_heads(out, shown)?;

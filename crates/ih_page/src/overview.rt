@@ -8,10 +8,9 @@ ghost use Rattle.ih_page.specs.Overview.{nurses_overview, over_mark, overview, q
 ghost use Rattle.ih_page.specs.Overview.{rooms_overview, quarter_td, shade_td, share_td, surgery_share, surgery_shares};
 ghost use Rattle.ih_page.specs.Overview.{theatres_overview, used_text};
 
-use crate::cell_names::put_room;
-use crate::day_heads::put_heads_and_days;
+use crate::day_heads::put_table_head;
 use crate::loads::load_of;
-use crate::names::{put_anchor, put_nurse, put_shift_type};
+use crate::names::{put_anchor, put_nurse, put_room, put_shift_type};
 use crate::presence::head_count;
 use crate::shown::Shown;
 use crate::surgery::{letter_of, number_of, percent_of, planned, put_resource};
@@ -129,7 +128,7 @@ fn put_surgery_shares(out: &mut Vec<u8>, shown: &Shown<'_>, resource: Resource) 
     ensures { OnOk result
         (out.new.items ≡ out.old.items ++ surgery_shares shown.now.inst.now.draft shown.now.plan.now resource) }
 {
-    put(out, "<tr><th>theatre ")?;
+    put(out, "<tr><th>")?;
     put_resource(out, shown.inst, resource)?;
     for d in 0..shown.inst.days() {
         put_surgery_share(out, shown, resource, d)?;
@@ -155,7 +154,7 @@ fn put_excess(out: &mut Vec<u8>, inst: &Instance, nurse: u32, shift: u32, excess
     ensures { OnOk result (out.new.items ≡ out.old.items ++ excess_text inst.now.draft nurse shift excess) }
 {
     put_nurse_link(out, inst, nurse, shift)?;
-    put(out, " +")?;
+    put(out, "&nbsp;+")?;
     put_number(out, excess)?;
     put(out, "<br>")
 }
@@ -231,11 +230,10 @@ fn put_rooms_overview(out: &mut Vec<u8>, shown: &Shown<'_>) -> Put
     ensures { OnOk result
         (out.new.items ≡ out.old.items ++ rooms_overview shown.now.inst.now.draft shown.now.first shown.now.plan.now) }
 {
-    put_heads_and_days(
+    put_table_head(
         out,
         shown,
-        "<h2>Overview by days</h2>\n<div><table class=v><tr><th>rooms: persons of capacity",
-        "<th>",
+        "<h2>Overview by days</h2>\n<div><table class=v><thead><tr><th>rooms: persons of capacity",
     )?;
     for r in 0..shown.inst.rooms() {
         put_room_shares(out, shown, r)?;
@@ -249,11 +247,10 @@ fn put_theatres_overview(out: &mut Vec<u8>, shown: &Shown<'_>) -> Put
         (out.new.items
         ≡ out.old.items ++ theatres_overview shown.now.inst.now.draft shown.now.first shown.now.plan.now) }
 {
-    put_heads_and_days(
+    put_table_head(
         out,
         shown,
-        "<tr><th>theatres: minutes used of minutes open",
-        "<th>",
+        "</table>\n<table class=v><thead><tr><th>theatres: minutes used of minutes open",
     )?;
     for t in 0..count_of(shown.inst, ResourceKind::Theatres) {
         put_surgery_shares(out, shown, one_of(ResourceKind::Theatres, t))?;
@@ -266,11 +263,10 @@ fn put_nurses_overview(out: &mut Vec<u8>, shown: &Shown<'_>) -> Put
     ensures { OnOk result
         (out.new.items ≡ out.old.items ++ nurses_overview shown.now.inst.now.draft shown.now.first shown.now.plan.now) }
 {
-    put_heads_and_days(
+    put_table_head(
         out,
         shown,
-        "<tr><th>nurses above their maximum workload",
-        "<th>",
+        "</table>\n<table class=v><thead><tr><th>nurses above their maximum workload",
     )?;
     for j in 0..3 {
         put_above_row(out, shown, j)?;
@@ -278,7 +274,7 @@ fn put_nurses_overview(out: &mut Vec<u8>, shown: &Shown<'_>) -> Put
     Ok(())
 }
 
-/// Appends the overview: rooms, theatres and nurses, in one table with a column for each day.
+/// Appends the overview: tables of rooms, of theatres and of nurses, with a column for each day.
 #[tactic(auto, unfolding(crate::specs::Overview::overview))]
 pub fn put_overview(out: &mut Vec<u8>, shown: &Shown<'_>) -> Put
     ensures { OnOk result (out.new.items

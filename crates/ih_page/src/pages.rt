@@ -45,19 +45,22 @@ fn look() -> &'static str
 body{font:14px/1.4 sans-serif;color:var(--fg);background:var(--bg);margin:1rem}\n\
 a{color:inherit}\n\
 div{overflow-x:auto}\n\
-table{border-collapse:collapse;font-variant-numeric:tabular-nums}\n\
-th,td{border:1px solid var(--line);padding:1px 4px;text-align:left;vertical-align:top;white-space:nowrap}\n\
+div,table{border-spacing:0;font-variant-numeric:tabular-nums}\n\
+th,td{border:solid var(--line);border-width:0 1px 1px 0;padding:1px 4px;text-align:left;vertical-align:top;white-space:nowrap}\n\
+tr>:first-child{border-left-width:1px}\n\
+thead tr:first-child>th,.s tr:first-child>th{border-top-width:1px}\n\
 tr>th:first-child{position:sticky;left:0;background:var(--bg)}\n\
 .s td,.s th{white-space:normal}\n\
-.s td:nth-child(n+3),.v td,td[id^=d],td[id^=n]{text-align:right}\n\
+.s :is(th,td):is(:nth-child(n+4),:nth-last-child(2)),.v :is(th,td)+*,td[id^=n],thead tr+tr>th+th+th{text-align:right}\n\
 .v a{text-decoration:none}\n\
 .v [class] a{display:block}\n\
+@media screen{.v{display:contents}.v thead{display:table-row-group}}\n\
 .f1{background:var(--f1)}\n\
 .f2{background:var(--f2)}\n\
 .f3{background:var(--f3)}\n\
 .f4{background:var(--f4)}\n\
 .c,.c tbody,.c tr,.c td{display:block}\n\
-.c tr{columns:17em}\n\
+.c tr{columns:31em}\n\
 .c td{border-width:0 0 6px;padding:0;break-inside:avoid}\n\
 .c1{border-color:#56b4e9}\n\
 .c2{border-color:#e69f00}\n\
@@ -73,21 +76,22 @@ tr>th:first-child{position:sticky;left:0;background:var(--bg)}\n\
 .q .b{border-color:var(--bar2)}\n\
 .w{background:linear-gradient(var(--bad),var(--bad)) center/100% 2px no-repeat}\n\
 .x{font-weight:bold;outline:2px solid var(--bad);outline-offset:-2px}\n\
+td[id^=n] bdi{font-weight:normal}\n\
 td[id^=n]:nth-child(3n+2){border-right-color:var(--fg)}\n\
 i{display:block;height:4px;background:var(--bar)}\n\
 ul{columns:24em;column-gap:2em;margin:.3rem 0;padding:0;list-style:none}\n\
-li{break-inside:avoid}\n\
+li{padding-left:1em;text-indent:-1em;break-inside:avoid}\n\
 summary{font-weight:bold}\n\
 .m{opacity:.7}\n\
 :target{outline:3px solid var(--bad)}\n\
 @media(max-width:600px){body{font-size:12px;margin:.5rem}.v th:first-child{white-space:normal;min-width:7em}}\n\
 @page{size:landscape;margin:9mm}\n\
-@media print{body{font-size:7.5pt;line-height:1.25;margin:0;print-color-adjust:exact}div{overflow:visible}ul{columns:22em;column-gap:1em}h1,h2,h3,summary,main>p,.v tr:has(th+th){break-after:avoid}section,tr,.c,.s{break-inside:avoid}details::details-content{content-visibility:visible;display:block}\n\
-div table{table-layout:fixed;width:100%}div td,div th{white-space:normal;overflow-wrap:anywhere;text-wrap:balance;padding:0 1px}td[id^=t],td[id^=g],.v [class] a{word-break:break-all}td[id] a{word-break:normal}\n\
-div tbody{display:contents}div tr:first-child{display:table-header-group;break-inside:avoid}tr:first-child>th:first-child{width:7em}.v tr:first-child>th:first-child{width:10em}section th:nth-child(-n+4){width:5em}th:nth-child(2):has(+[colspan]){width:2em}\n\
-body:has(.v th:nth-child(9)){td[id^=n],tr:nth-child(2)>th+th,th:nth-child(2):has(+[colspan]){writing-mode:vertical-rl;white-space:nowrap;text-align:left}}\n\
-body:has(.v th:nth-child(16)) div table{font-size:7pt}\n\
-body:has(.v th:nth-child(30)){.v td,td[id^=s],td[id^=t],td[id^=g]{writing-mode:vertical-rl;text-align:left}i{display:none}div th+th{font-size:5pt}table:has([id^=n]){display:block;tr{display:grid;grid-template-columns:7em 2em repeat(84,1fr)}th,td{min-width:0}[colspan]{grid-column:span 3}tr>:nth-child(-n+2){grid-row:1/3}}}}\n\
+@media print{body{font-size:7.5pt;line-height:1.25;margin:0;print-color-adjust:exact}a{text-decoration:none}p:has(a){display:none}div{overflow:visible}ul{columns:22em;column-gap:1em}ul:not(:has(li)){display:none}bdi{display:inline-block;text-indent:0}h1,h2,h3,summary,main>p,thead{break-after:avoid}h2:has(+p+section),#index{break-before:page}section,thead,tr,.c,.s{break-inside:avoid}summary{list-style:none}details:not([id^=S])::details-content{content-visibility:visible;display:block}details[id^=S]:not([open]),#wrong:not(:has(~[open])){display:none}\n\
+div table{table-layout:fixed;width:100%}div td,div th{white-space:normal;overflow-wrap:anywhere;text-wrap:balance;padding:0 2px}td[id^=n]{font-size:6.5pt;padding:1px 1px 0}.x{outline-width:1px;outline-offset:-1px}td[id^=t],td[id^=g],.v [class] a{word-break:break-all}td[id] a{word-break:normal}\n\
+section th:nth-child(-n+4){width:5em}thead th:first-child{width:8em}.v th:first-child{width:10em}th:nth-child(2):has(+[colspan]){width:3em}\n\
+body:has(.v th:nth-child(9)){td[id^=n],thead tr+tr>th+th{writing-mode:vertical-rl;white-space:nowrap;text-align:left;padding:2px 2px 2px 0}td[id^=n] br{display:none}}\n\
+body:has(.v th:nth-child(16)){div table{font-size:7pt}.v td,td[id^=t],td[id^=g]{padding:0 1px}td[id^=t],td[id^=g],thead tr+tr>th+th{font-size:6pt}.v td,td[id^=n]{font-size:5.5pt}td[id^=n],thead tr+tr>th+th{padding-right:1px}}\n\
+body:has(.v th:nth-child(30)){.v td,td[id^=s],td[id^=t],td[id^=g]{writing-mode:vertical-rl;text-align:left}i{display:none}div th+th{font-size:5pt;padding:0}table:has([id^=n]) tr{display:grid;grid-template-columns:8em 3em repeat(84,1fr);th,td{min-width:0;width:auto!important}[colspan]{grid-column:span 3}:nth-child(-n+2){grid-row:1/3}}}}\n\
 </style>\n\
 <main>\n"
 }

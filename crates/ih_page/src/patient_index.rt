@@ -5,9 +5,8 @@ ghost use Rattle.ih_tables.specs.Sizes.{patient_count};
 ghost use Rattle.ih_plan.specs.Timetable.{IsPlacement, IsPlanOf, stay_of};
 ghost use Rattle.ih_page.specs.PatientIndex.{index_item, patient_index, place_text, placement_text};
 
-use crate::cell_names::put_room;
 use crate::day_heads::put_day;
-use crate::names::put_theatre;
+use crate::names::{put_room, put_theatre};
 use crate::shown::Shown;
 use crate::surgery::put_link;
 use crate::texts::{Put, put};
@@ -20,6 +19,7 @@ fn put_placement(out: &mut Vec<u8>, shown: &Shown<'_>, at: Placement) -> Put
     ensures { OnOk result
         (out.new.items ≡ out.old.items ++ placement_text shown.now.inst.now.draft shown.now.first at) }
 {
+    put(out, "room ")?;
     put_room(out, shown.inst, at.room)?;
     put_day(out, shown, at.day.0)?;
     put(out, ", theatre ")?;

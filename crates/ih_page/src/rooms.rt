@@ -9,7 +9,7 @@ ghost use Rattle.ih_page.specs.Rooms.{patient_row, occupant_row, begins_in, pati
 ghost use Rattle.ih_page.specs.Rooms.{count_td, nurse_name, nurse_td, shift_row, room_title, room_head, count_row};
 ghost use Rattle.ih_page.specs.Rooms.{person_rows, room_text, legend, rooms_text};
 
-use crate::day_heads::put_heads_and_days;
+use crate::day_heads::put_table_head;
 use crate::names::{put_age, put_marked, put_nurse, put_shift_type, put_td_at, put_theatre};
 use crate::presence::head_count;
 use crate::shown::Shown;
@@ -307,11 +307,10 @@ fn put_room_head(out: &mut Vec<u8>, shown: &Shown<'_>, room_no: u32, room: &Room
         (out.new.items ≡ out.old.items ++ room_head shown.now.inst.now.draft shown.now.first room_no room.now) }
 {
     put_title(out, room_no, room)?;
-    put_heads_and_days(
+    put_table_head(
         out,
         shown,
-        "<div><table><tr><th>person<th>gender<th>age<th>theatre",
-        "<th>",
+        "<div><table><thead><tr><th>person<th>gender<th>age<th>theatre",
     )
 }
 
@@ -373,7 +372,8 @@ fn put_room(out: &mut Vec<u8>, shown: &Shown<'_>, room: u32) -> Put
 fn legend() -> &'static str
     ensures { result.now ≡ legend }
 {
-    "<p>* mandatory; bar: days of stay and gender; &rarr; past the last day; thin line: delay since release</p>\n"
+    "<p>* mandatory; bar: days of stay and gender, dashed: there from the start; &rarr; past the last day; \
+thin line: delay since release; ! above the capacity; - no nurse</p>\n"
 }
 
 /// Appends the tables of the rooms.

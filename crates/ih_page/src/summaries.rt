@@ -2,9 +2,9 @@
 
 ghost use Rattle.std.specs.Prelude.{◌≡◌, ◌<◌, ◌≤◌, ◌≤ℤ◌, ◌^◌, ◌++◌, pos, neg_ℤ, OnOk};
 ghost use Rattle.ih_tables.specs.Bills.{IsWithin};
-ghost use Rattle.ih_page.specs.Summary.{rule_name, cost_name, line_text, line_link, line_name, line_head, product_text};
-ghost use Rattle.ih_page.specs.Summary.{hard_text, rule_row, weighed_text, cost_row, rule_rows, cost_rows};
-ghost use Rattle.ih_page.specs.Summary.{feasible_text, headline, summary};
+ghost use Rattle.ih_page.specs.Summary.{rule_name, rule_unit, cost_name, cost_unit, line_text, line_link, line_name};
+ghost use Rattle.ih_page.specs.Summary.{line_head, product_text, hard_text, rule_row, weighed_text, cost_row};
+ghost use Rattle.ih_page.specs.Summary.{rule_rows, cost_rows, feasible_text, headline, whole_head, whole_row, summary};
 
 use crate::texts::{Put, put, put_number, put_signed};
 use ih_tables::{Bill, Instance, times};
@@ -15,15 +15,33 @@ pub fn rule_name(index: usize) -> &'static str
     ensures { result.now ≡ rule_name index }
 {
     match index {
-        0 => "two genders in a room",
-        1 => "incompatible room",
-        2 => "surgeon: minutes over",
-        3 => "theatre: minutes over",
-        4 => "mandatory patient left out",
-        5 => "outside the window",
-        6 => "persons above the capacity",
-        7 => "nurse who is off",
-        _ => "no nurse",
+        0 => "two genders in a room on a day",
+        1 => "patients in a room that doesn't suit them",
+        2 => "surgery above a surgeon's maximum, by day",
+        3 => "surgery above a theatre's opening time, by day",
+        4 => "mandatory patients who aren't admitted",
+        5 => "admissions before the release day or after the due day",
+        6 => "persons above a room's capacity",
+        7 => "nurses given to a room in a shift that they don't work",
+        _ => "occupied rooms without a nurse",
+    }
+}
+
+// In which unit a hard rule counts.
+#[tactic(auto, unfolding(crate::specs::Summary::rule_unit))]
+fn rule_unit(index: usize) -> &'static str
+    ensures { result.now ≡ rule_unit index }
+{
+    match index {
+        0 => "room and day",
+        1 => "patient",
+        2 => "minute",
+        3 => "minute",
+        4 => "patient",
+        5 => "patient",
+        6 => "person and day",
+        7 => "room and shift",
+        _ => "room and shift",
     }
 }
 
@@ -33,14 +51,31 @@ pub fn cost_name(index: usize) -> &'static str
     ensures { result.now ≡ cost_name index }
 {
     match index {
-        0 => "mixed ages",
-        1 => "missing skill",
-        2 => "nurses of a stay",
-        3 => "workload over",
-        4 => "open theatre",
-        5 => "theatres beyond the first",
-        6 => "days of delay",
-        _ => "optional patient left out",
+        0 => "oldest minus youngest age group, by room and day",
+        1 => "skill that a person needs above the nurse's",
+        2 => "different nurses each person sees",
+        3 => "workload above a nurse's maximum, by shift",
+        4 => "theatres in use",
+        5 => "theatres that a surgeon uses on a day, beyond the first",
+        6 => "days from the release to the admission",
+        _ => "optional patients left out",
+    }
+}
+
+// In which unit a cost counts.
+#[tactic(auto, unfolding(crate::specs::Summary::cost_unit))]
+fn cost_unit(index: usize) -> &'static str
+    ensures { result.now ≡ cost_unit index }
+{
+    match index {
+        0 => "age group",
+        1 => "skill level and shift",
+        2 => "nurse",
+        3 => "unit of workload",
+        4 => "theatre and day",
+        5 => "theatre",
+        6 => "day",
+        _ => "patient",
     }
 }
 
@@ -80,14 +115,23 @@ fn put_line_name(out: &mut Vec<u8>, letter: &str, index: usize, value: i64) -> P
 }
 
 #[tactic(auto, unfolding(crate::specs::Summary::line_head))]
-fn put_head(out: &mut Vec<u8>, letter: &str, index: usize, name: &str, value: i64) -> Put
+fn put_head(
+    out: &mut Vec<u8>,
+    letter: &str,
+    index: usize,
+    name: &str,
+    unit: &str,
+    value: i64,
+) -> Put
     requires { index < 9 }
-    ensures { OnOk result (out.new.items ≡ out.old.items ++ line_head letter.now index name.now value) }
+    ensures { OnOk result (out.new.items ≡ out.old.items ++ line_head letter.now index name.now unit.now value) }
 {
     put(out, "<tr><th>")?;
     put_line_name(out, letter, index, value)?;
     put(out, "<td>")?;
-    put(out, name)
+    put(out, name)?;
+    put(out, "<td>")?;
+    put(out, unit)
 }
 
 #[tactic(auto, unfolding(crate::specs::Summary::hard_text))]
@@ -101,7 +145,7 @@ fn put_rule(out: &mut Vec<u8>, index: usize, value: i64) -> Put
     requires { index < 9 }
     ensures { OnOk result (out.new.items ≡ out.old.items ++ rule_row index value) }
 {
-    put_head(out, "V", index, rule_name(index), value)?;
+    put_head(out, "V", index, rule_name(index), rule_unit(index), value)?;
     put(out, "<td>")?;
     put_signed(out, value)?;
     put(out, hard_text())
@@ -142,7 +186,7 @@ fn put_cost(out: &mut Vec<u8>, index: usize, amount: i64, weight: i64) -> Put
     requires weight_high { weight ≤ℤ pos 100000 }
     ensures { OnOk result (out.new.items ≡ out.old.items ++ cost_row index amount weight) }
 {
-    put_head(out, "S", index, cost_name(index), amount)?;
+    put_head(out, "S", index, cost_name(index), cost_unit(index), amount)?;
     put_weighed(out, amount, weight)
 }
 
@@ -190,7 +234,26 @@ pub fn put_headline(out: &mut Vec<u8>, inst: &Instance, bill: &Bill) -> Put
     put(out, "</p>\n")
 }
 
-/// Appends a row for each of the seventeen numbers.
+/// The beginning of the row of the whole cost.
+#[tactic(auto, unfolding(crate::specs::Summary::whole_head))]
+pub fn whole_head() -> &'static str
+    ensures { result.now ≡ whole_head }
+{
+    "<tr><th>cost<td>the eight products, summed"
+}
+
+#[tactic(auto, unfolding(crate::specs::Summary::whole_row))]
+fn put_whole(out: &mut Vec<u8>, inst: &Instance, bill: &Bill) -> Put
+    requires { IsWithin (10 ^ 11) bill.now }
+    ensures { OnOk result (out.new.items ≡ out.old.items ++ whole_row inst.now.draft.weights bill.now) }
+{
+    put(out, whole_head())?;
+    put(out, "<td>as the instance's weights<td><td><td>")?;
+    put_signed(out, bill.cost(inst.weights()))?;
+    put(out, "\n")
+}
+
+/// Appends a row for each of the seventeen numbers, and one for the cost.
 #[tactic(auto, unfolding(crate::specs::Summary::summary))]
 pub fn put_summary(out: &mut Vec<u8>, inst: &Instance, bill: &Bill) -> Put
     requires { IsWithin (10 ^ 11) bill.now }
@@ -198,9 +261,10 @@ pub fn put_summary(out: &mut Vec<u8>, inst: &Instance, bill: &Bill) -> Put
 {
     put(
         out,
-        "<h2>The report</h2>\n<table class=s><tr><th>line<th>what it counts<th>number<th>weight<th>product\n",
+        "<h2>The report</h2>\n<table class=s><tr><th>line<th>what it counts<th>unit<th>number<th>weight<th>product\n",
     )?;
     put_rules(out, bill)?;
     put_costs(out, inst, bill)?;
+    put_whole(out, inst, bill)?;
     put(out, "</table>\n")
 }

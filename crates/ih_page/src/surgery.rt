@@ -7,7 +7,7 @@ ghost use Rattle.ih_page.specs.Surgery.{minutes_of, planned, surgery_count, lett
 ghost use Rattle.ih_page.specs.Surgery.{heads_of, surgery_text, percent_of, percent_text, name_link, minutes_text};
 ghost use Rattle.ih_page.specs.Surgery.{patient_link, operation, surgery_of, surgery_td, surgery_row};
 
-use crate::day_heads::put_heads_and_days;
+use crate::day_heads::put_table_head;
 use crate::names::{put_marked, put_surgeon, put_td_at, put_theatre};
 use crate::shown::Shown;
 use crate::texts::{Put, put, put_number, put_numbered};
@@ -217,9 +217,9 @@ fn heads_of(kind: ResourceKind) -> &'static str
 {
     match kind {
         ResourceKind::Theatres =>
-            "<h2>Theatres by days, in minutes</h2>\n<div><table><tr><th>theatre",
+            "<h2>Theatres by days, in minutes</h2>\n<div><table><thead><tr><th>theatre",
         ResourceKind::Surgeons =>
-            "<h2>Surgeons by days, in minutes</h2>\n<div><table><tr><th>surgeon",
+            "<h2>Surgeons by days, in minutes</h2>\n<div><table><thead><tr><th>surgeon",
     }
 }
 
@@ -230,7 +230,7 @@ pub fn put_surgery_of(out: &mut Vec<u8>, shown: &Shown<'_>, kind: ResourceKind) 
         (out.new.items
         ≡ out.old.items ++ surgery_text shown.now.inst.now.draft shown.now.first shown.now.plan.now kind) }
 {
-    put_heads_and_days(out, shown, heads_of(kind), "<th>")?;
+    put_table_head(out, shown, heads_of(kind))?;
     for i in 0..count_of(shown.inst, kind) {
         put_row(out, shown, one_of(kind, i))?;
     }

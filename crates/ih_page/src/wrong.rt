@@ -71,9 +71,9 @@ fn is_early(shown: &Shown<'_>, cell: Cell) -> bool
     }
 }
 
-/// Appends a cell's name, which leads to its anchor.
+// A cell's name, which leads to its anchor.
 #[tactic(auto, unfolding(crate::specs::Wrong::cell_link))]
-pub fn put_cell_link(out: &mut Vec<u8>, shown: &Shown<'_>, cell: Cell) -> Put
+fn put_cell_link(out: &mut Vec<u8>, shown: &Shown<'_>, cell: Cell) -> Put
     requires { IsCellOf shown.now.inst.now.draft cell }
     ensures { OnOk result (out.new.items ≡ out.old.items ++ cell_link shown.now.inst.now.draft shown.now.first cell) }
 {

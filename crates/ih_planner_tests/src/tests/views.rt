@@ -119,7 +119,7 @@ const LOOKS: [Look; 3] = [
         ),
         &[
             "<li><a href=#s1-0>room <bdi>r1</bdi>, day 0, <bdi>early</bdi></a>: the nurse is off\n",
-            "<td id=n1-0 class=x>!0/off<td id=n1-1>0/10",
+            "<td id=n1-0 class=x>!0/off <br><bdi>r1</bdi><td id=n1-1>0/10",
         ],
     ),
     (

@@ -25,7 +25,7 @@ const CHANGES: [Since; 3] = [
             "<ul>\n<li> <a href=#p0><bdi>p0</bdi></a>: was room <bdi>r0</bdi>, day 1, theatre <bdi>t0</bdi>\n<br>now room <bdi>r0</bdi>, day 0, theatre <bdi>t0</bdi>\n</ul>\n<h3>Shifts",
             "by room</h3>\n<table class=s>",
             "was<th>now\n<tr><th>rules<td>hard rules broken<td>0<td>0\n",
-            "<tr><th>S7<td>days of delay<td>4<td>0\n",
+            "<tr><th>S7<td>days from the release to the admission<td>4<td>0\n",
         ],
     ),
     (
@@ -34,7 +34,7 @@ const CHANGES: [Since; 3] = [
         &[
             "theatre</h3>\n<ul>\n</ul>\n<h3>Shifts",
             "<br>Rooms with another nurse: 1</p>\n",
-            "by room</h3>\n<details open><summary>room <bdi>r0</bdi>: 1</summary><ul>\n<li><a href=#s0-1>room <bdi>r0</bdi>, day 0, <bdi>late</bdi></a>: was -, now <bdi>n0</bdi>\n</ul></details>\n",
+            "by room</h3>\n<details open><summary><bdi>r0</bdi>: 1</summary><ul>\n<li><a href=#s0-1>day 0, <bdi>late</bdi></a>: was -, now <bdi>n0</bdi>\n</ul></details>\n",
             "<tr><th>rules<td>hard rules broken<td>1<td>0\n",
         ],
     ),
@@ -44,7 +44,7 @@ const CHANGES: [Since; 3] = [
         &[
             "changed</h2>\n<p class=m>Nothing changed.</p>\n<h3>Patients",
             "theatre</h3>\n<ul>\n</ul>\n<h3>Shifts",
-            "<tr><th>cost<td>all parts<td>159<td>159\n",
+            "<tr><th>cost<td>the eight products, summed<td>159<td>159\n",
         ],
     ),
 ];
@@ -85,7 +85,7 @@ const DATED: [Event<'static>; 5] = [
     Shows(
         "p",
         &[
-            "theatre<th>0<br>Tue 29 Feb<th>1<br>Wed 1 Mar\n<tr",
+            "theatre<th>0<br>Tue 29 Feb<th>1<br>Wed 1 Mar</thead>\n<tr",
             "<bdi>p0</bdi></a>: room <bdi>r0</bdi>, day 0 (Tue 29 Feb), theatre <bdi>t0</bdi>\n",
         ],
     ),

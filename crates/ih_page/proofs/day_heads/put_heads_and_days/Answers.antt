@@ -1,6 +1,5 @@
-use Rattle.std.proofs.lemmas.Result.{on_ok_weaker}
 use Rattle.ih_page.specs.DayHeads.{heads_and_days}
-use Rattle.ih_page.proofs.Joins.{joins3}
+use Rattle.ih_page.proofs.Joins.{joins2}
 use Rattle.ih_page.proofs.Lines.{no-lines, some-more, all-lines}
 use Rattle.ih_page.proofs.day_heads.put_heads_and_days.Goals as goal
 
@@ -12,4 +11,4 @@ loop-d-preserved c = some-more _ _ _ _ _ c.loop-d.invariant c.in_ok-put_day_head
 
 pub returns : goal.returns
 unfolding heads_and_days
-returns c = on_ok_weaker c.put-2.result (λ d. joins3 _ _ _ _ _ _ _ c.in_ok-put.ensures (all-lines _ _ _ _ _ _ c.loop-d.invariant c.loop-d.auto.d-end c.loop-d-test.false c.days-d-end.ensures) d) c.put-2.ensures
+returns c = joins2 _ _ _ _ _ c.in_ok-put.ensures (all-lines _ _ _ _ _ _ c.loop-d.invariant c.loop-d.auto.d-end c.loop-d-test.false c.days-d-end.ensures)

@@ -12,4 +12,4 @@ loop-j-preserved c = some-more _ _ _ _ _ c.loop-j.invariant c.in_ok-put_above_ro
 
 pub returns : goal.returns
 unfolding nurses_overview
-returns c = joins2 _ _ _ _ _ c.in_ok-put_heads_and_days.ensures (all-lines _ _ _ _ _ _ c.loop-j.invariant c.loop-j.auto.j-end c.loop-j-test.false refl)
+returns c = joins2 _ _ _ _ _ c.in_ok-put_table_head.ensures (all-lines _ _ _ _ _ _ c.loop-j.invariant c.loop-j.auto.j-end c.loop-j-test.false refl)

@@ -11,4 +11,4 @@ loop-r-preserved c = some-more _ _ _ _ _ c.loop-r.invariant c.in_ok-put_room_sha
 
 pub returns : goal.returns
 unfolding rooms_overview
-returns c = joins2 _ _ _ _ _ c.in_ok-put_heads_and_days.ensures (all-lines _ _ _ _ _ _ c.loop-r.invariant c.loop-r.auto.r-end c.loop-r-test.false c.rooms-r-end.ensures)
+returns c = joins2 _ _ _ _ _ c.in_ok-put_table_head.ensures (all-lines _ _ _ _ _ _ c.loop-r.invariant c.loop-r.auto.r-end c.loop-r-test.false c.rooms-r-end.ensures)

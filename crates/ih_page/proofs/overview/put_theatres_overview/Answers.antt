@@ -15,4 +15,4 @@ loop-t-preserved c =
 
 pub returns : goal.returns
 unfolding theatres_overview
-returns c = joins2 _ _ _ _ _ c.in_ok-put_heads_and_days.ensures (all-lines _ _ _ _ _ _ c.loop-t.invariant c.loop-t.auto.t-end c.loop-t-test.false c.count_of-t-end.ensures)
+returns c = joins2 _ _ _ _ _ c.in_ok-put_table_head.ensures (all-lines _ _ _ _ _ _ c.loop-t.invariant c.loop-t.auto.t-end c.loop-t-test.false c.count_of-t-end.ensures)
