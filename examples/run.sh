@@ -1,8 +1,8 @@
 #!/usr/bin/env bash
-# Builds both programs where they aren't built yet, shows a search that needs no file, searches the ward of this
-# folder, shows what was written, checks it, shows how a call ends whose text can't be put out, makes its page, searches
-# on from it while the first two days stay as they are, and makes a better plan with the planners' program. The first
-# build proves every crate below the programs, which takes a while; later calls start at once.
+# Builds both programs if they aren't built yet or code is newer, shows a search that needs no file, searches the ward
+# of this folder, shows what was written, checks it, shows how a call ends whose text can't be put out, makes its page,
+# searches on from it while the first two days stay as they are, and makes a better plan with the planners' program. The
+# first build proves every crate below the programs, which takes a while; later calls start at once.
 #   examples/run.sh [FOLDER]     FOLDER takes the files
 set -euo pipefail
 top=$(cd "$(dirname "$0")/.." && pwd)
@@ -16,13 +16,17 @@ planner=$top/crates/ih_planner/out/ih_planner
 wanted() {
   command -v rt >/dev/null || { echo "run.sh: Rattle's toolchain is wanted ('rt' on the path)" >&2; exit 2; }
 }
-if [ -x "$program" ]; then
+# Whether the program is there, and no code is newer.
+is_built() {
+  [ -x "$1" ] && [ -z "$(find "$top/crates" -name '*.rt' -newer "$1" -print -quit)" ]
+}
+if is_built "$program"; then
   "$program" demo 7
 else
   wanted
   (cd "$top/crates/ih_main" && rt run -- demo 7)
 fi
-if [ ! -x "$planner" ]; then
+if ! is_built "$planner"; then
   wanted
   (cd "$top/crates/ih_planner" && rt run -- --help)
 fi
