@@ -75,45 +75,45 @@ const LINE_ROOM: usize = 704;
 
 // A number with a space before it.
 #[inline(always)]
-fn put_field(room: &mut [u8], at: usize, number: u32) -> usize
-    requires { at + 21 ≤ length room.old }
-    ensures text { take result room.new ≡ take at room.old ++ 32 ∷ decimal number }
+fn put_field(buffer: &mut [u8], at: usize, number: u32) -> usize
+    requires { at + 21 ≤ length buffer.old }
+    ensures text { take result buffer.new ≡ take at buffer.old ++ 32 ∷ decimal number }
     ensures within { result ≤ at + 21 }
 {
-    let end = put_byte(room, at, b' ');
-    put_number(room, end, u64::from(number))
+    let end = put_byte(buffer, at, b' ');
+    put_number(buffer, end, u64::from(number))
 }
 
 #[inline(always)]
-fn put_again(room: &mut [u8], at: usize, retries: u32, again: u32) -> usize
-    requires { at + 21 ≤ length room.old }
-    ensures text { take result room.new ≡ take at room.old ++ marked 32 (again_field retries again) }
+fn put_again(buffer: &mut [u8], at: usize, retries: u32, again: u32) -> usize
+    requires { at + 21 ≤ length buffer.old }
+    ensures text { take result buffer.new ≡ take at buffer.old ++ marked 32 (again_field retries again) }
     ensures within { result ≤ at + 21 }
 {
     match retries {
         0 => at,
-        _ => put_field(room, at, again),
+        _ => put_field(buffer, at, again),
     }
 }
 
-// Writes the line of the entry at a place from the beginning of the room on.
-fn put_line(room: &mut [u8], options: &Options, place: u32, entry: &Entry) -> usize
-    requires { LINE_ROOM ≤ length room.old }
-    ensures text { take result room.new ≡ ended (line_text options.now place entry.now) }
+// Writes the line of the entry at a place from the beginning of the buffer on.
+fn put_line(buffer: &mut [u8], options: &Options, place: u32, entry: &Entry) -> usize
+    requires { LINE_ROOM ≤ length buffer.old }
+    ensures text { take result buffer.new ≡ ended (line_text options.now place entry.now) }
     ensures within { result ≤ LINE_ROOM }
 {
-    let end = put_number(room, 0, u64::from(place));
-    let end = put_field(room, end, entry.worker);
-    let end = put_field(room, end, entry.number);
-    let end = put_again(room, end, options.retries, entry.again);
-    let end = put_field(room, end, entry.seen);
-    let end = put_byte(room, end, b' ');
-    let end = put_move(room, end, &entry.mv);
-    let end = put_byte(room, end, b' ');
-    let end = put_price(room, end, &entry.price);
-    let end = put_byte(room, end, b' ');
-    let end = put_verdict(room, end, &entry.verdict);
-    put_byte(room, end, b'\n')
+    let end = put_number(buffer, 0, u64::from(place));
+    let end = put_field(buffer, end, entry.worker);
+    let end = put_field(buffer, end, entry.number);
+    let end = put_again(buffer, end, options.retries, entry.again);
+    let end = put_field(buffer, end, entry.seen);
+    let end = put_byte(buffer, end, b' ');
+    let end = put_move(buffer, end, &entry.mv);
+    let end = put_byte(buffer, end, b' ');
+    let end = put_price(buffer, end, &entry.price);
+    let end = put_byte(buffer, end, b' ');
+    let end = put_verdict(buffer, end, &entry.verdict);
+    put_byte(buffer, end, b'\n')
 }
 
 /// Room for one line, which many lines in turn are written in.

@@ -51,25 +51,25 @@ fn digit_count(number: u64) -> usize
 
 // Three bytes, of which the text has the first ones.
 #[inline(always)]
-fn put_three(room: &mut [u8], at: usize, from: usize)
-    requires room { at + 3 ≤ length room.old }
+fn put_three(buffer: &mut [u8], at: usize, from: usize)
+    requires room { at + 3 ≤ length buffer.old }
     requires from { from + 3 ≤ 3000 }
-    ensures len { length room.new ≡ length room.old }
-    ensures text { take (at + 3) room.new ≡ take at room.old ++ take 3 (drop from TEXTS) }
+    ensures len { length buffer.new ≡ length buffer.old }
+    ensures text { take (at + 3) buffer.new ≡ take at buffer.old ++ take 3 (drop from TEXTS) }
 {
-    let end = put_byte(room, at, TEXTS[from]);
-    let end = put_byte(room, end, TEXTS[from + 1]);
-    put_byte(room, end, TEXTS[from + 2]);
+    let end = put_byte(buffer, at, TEXTS[from]);
+    let end = put_byte(buffer, end, TEXTS[from + 1]);
+    put_byte(buffer, end, TEXTS[from + 2]);
 }
 
 /// Writes a number of at most three digits. Up to two bytes behind its text are spoilt.
 #[inline(always)]
-pub(crate) fn put_small(room: &mut [u8], at: usize, number: u64) -> usize
-    requires room { at + 3 ≤ length room.old }
+pub(crate) fn put_small(buffer: &mut [u8], at: usize, number: u64) -> usize
+    requires room { at + 3 ≤ length buffer.old }
     requires small { number < 1000 }
-    ensures text { take result room.new ≡ take at room.old ++ decimal number }
+    ensures text { take result buffer.new ≡ take at buffer.old ++ decimal number }
     ensures within { result ≤ at + 3 }
 {
-    put_three(room, at, 3 * number as usize);
+    put_three(buffer, at, 3 * number as usize);
     at + digit_count(number)
 }

@@ -14,92 +14,92 @@ use std::alloc::AllocError;
 
 // Each number with the separator before it.
 #[inline(always)]
-fn put_marked(room: &mut [u8], at: usize, separator: u8, ns: &[u32]) -> usize
-    requires { at + 21 * length ns.now ≤ length room.old }
-    ensures text { take result room.new ≡ take at room.old ++ marked separator (map decimal ns.now) }
+fn put_marked(buffer: &mut [u8], at: usize, separator: u8, ns: &[u32]) -> usize
+    requires { at + 21 * length ns.now ≤ length buffer.old }
+    ensures text { take result buffer.new ≡ take at buffer.old ++ marked separator (map decimal ns.now) }
     ensures within { result ≤ at + 21 * length ns.now }
 {
     let mut end = at;
     for n in ns {
-        end = put_byte(room, end, separator);
-        end = put_number(room, end, u64::from(*n));
+        end = put_byte(buffer, end, separator);
+        end = put_number(buffer, end, u64::from(*n));
     }
     end
 }
 
 #[inline(always)]
-fn put_named(room: &mut [u8], at: usize, name: &str, first: u32, rest: &[u32]) -> usize
-    requires { at + length name.now + 21 + 21 * length rest.now ≤ length room.old }
-    ensures text { take result room.new ≡ take at room.old ++ named name.now (first ∷ rest.now) }
+fn put_named(buffer: &mut [u8], at: usize, name: &str, first: u32, rest: &[u32]) -> usize
+    requires { at + length name.now + 21 + 21 * length rest.now ≤ length buffer.old }
+    ensures text { take result buffer.new ≡ take at buffer.old ++ named name.now (first ∷ rest.now) }
     ensures within { result ≤ at + length name.now + 21 + 21 * length rest.now }
 {
-    let end = put_text(room, at, name);
-    let end = put_byte(room, end, b':');
-    let end = put_number(room, end, u64::from(first));
-    put_marked(room, end, b',', rest)
+    let end = put_text(buffer, at, name);
+    let end = put_byte(buffer, end, b':');
+    let end = put_number(buffer, end, u64::from(first));
+    put_marked(buffer, end, b',', rest)
 }
 
 #[inline(always)]
-fn put_dotted(room: &mut [u8], at: usize, name: &str, ns: &[u32]) -> usize
-    requires { at + length name.now + 21 * length ns.now ≤ length room.old }
-    ensures text { take result room.new ≡ take at room.old ++ dotted name.now ns.now }
+fn put_dotted(buffer: &mut [u8], at: usize, name: &str, ns: &[u32]) -> usize
+    requires { at + length name.now + 21 * length ns.now ≤ length buffer.old }
+    ensures text { take result buffer.new ≡ take at buffer.old ++ dotted name.now ns.now }
     ensures within { result ≤ at + length name.now + 21 * length ns.now }
 {
-    let end = put_text(room, at, name);
-    put_marked(room, end, b'.', ns)
+    let end = put_text(buffer, at, name);
+    put_marked(buffer, end, b'.', ns)
 }
 
 /// Writes a move.
 #[tactic(auto, unfolding(crate::specs::Texts::move_text))]
-pub(crate) fn put_move(room: &mut [u8], at: usize, mv: &Move) -> usize
-    requires { at + 94 ≤ length room.old }
-    ensures text { take result room.new ≡ take at room.old ++ move_text mv.now }
+pub(crate) fn put_move(buffer: &mut [u8], at: usize, mv: &Move) -> usize
+    requires { at + 94 ≤ length buffer.old }
+    ensures text { take result buffer.new ≡ take at buffer.old ++ move_text mv.now }
     ensures within { result ≤ at + 94 }
 {
     match *mv {
-        Move::Idle => put_text(room, at, "idle"),
+        Move::Idle => put_text(buffer, at, "idle"),
         Move::Place(p, x) => {
-            put_named(room, at, "place", p.0, &[x.day.0, x.room.0, x.theatre.0])
+            put_named(buffer, at, "place", p.0, &[x.day.0, x.room.0, x.theatre.0])
         }
-        Move::Withdraw(p) => put_named(room, at, "withdraw", p.0, &[]),
-        Move::SetDay(p, d) => put_named(room, at, "setday", p.0, &[d.0]),
-        Move::SetRoom(p, r) => put_named(room, at, "setroom", p.0, &[r.0]),
-        Move::SetTheatre(p, t) => put_named(room, at, "settheatre", p.0, &[t.0]),
-        Move::SwapRooms(p, q) => put_named(room, at, "swaprooms", p.0, &[q.0]),
-        Move::Nurse(r, k, n) => put_named(room, at, "nurse", r.0, &[k.0, n.0]),
-        Move::NurseRun(n, r, d, len) => put_named(room, at, "nurserun", n.0, &[r.0, d.0, len]),
-        Move::SwapNurses(k, a, b) => put_named(room, at, "swapnurses", k.0, &[a.0, b.0]),
+        Move::Withdraw(p) => put_named(buffer, at, "withdraw", p.0, &[]),
+        Move::SetDay(p, d) => put_named(buffer, at, "setday", p.0, &[d.0]),
+        Move::SetRoom(p, r) => put_named(buffer, at, "setroom", p.0, &[r.0]),
+        Move::SetTheatre(p, t) => put_named(buffer, at, "settheatre", p.0, &[t.0]),
+        Move::SwapRooms(p, q) => put_named(buffer, at, "swaprooms", p.0, &[q.0]),
+        Move::Nurse(r, k, n) => put_named(buffer, at, "nurse", r.0, &[k.0, n.0]),
+        Move::NurseRun(n, r, d, len) => put_named(buffer, at, "nurserun", n.0, &[r.0, d.0, len]),
+        Move::SwapNurses(k, a, b) => put_named(buffer, at, "swapnurses", k.0, &[a.0, b.0]),
     }
 }
 
 #[tactic(auto, unfolding(crate::specs::Texts::cell_text))]
-fn put_cell(room: &mut [u8], at: usize, cell: &Cell) -> usize
-    requires { at + 52 ≤ length room.old }
-    ensures text { take result room.new ≡ take at room.old ++ cell_text cell.now }
+fn put_cell(buffer: &mut [u8], at: usize, cell: &Cell) -> usize
+    requires { at + 52 ≤ length buffer.old }
+    ensures text { take result buffer.new ≡ take at buffer.old ++ cell_text cell.now }
     ensures within { result ≤ at + 52 }
 {
     match *cell {
-        Cell::Stay(p) => put_dotted(room, at, "stay", &[p.0]),
-        Cell::RoomDay(r, d) => put_dotted(room, at, "roomday", &[r.0, d.0]),
-        Cell::TheatreDay(t, d) => put_dotted(room, at, "theatreday", &[t.0, d.0]),
-        Cell::SurgeonDay(s, d) => put_dotted(room, at, "surgeonday", &[s.0, d.0]),
-        Cell::RoomShift(r, k) => put_dotted(room, at, "roomshift", &[r.0, k.0]),
-        Cell::NurseShift(n, k) => put_dotted(room, at, "nurseshift", &[n.0, k.0]),
-        Cell::Care(x) => put_dotted(room, at, "care", &[x.0]),
+        Cell::Stay(p) => put_dotted(buffer, at, "stay", &[p.0]),
+        Cell::RoomDay(r, d) => put_dotted(buffer, at, "roomday", &[r.0, d.0]),
+        Cell::TheatreDay(t, d) => put_dotted(buffer, at, "theatreday", &[t.0, d.0]),
+        Cell::SurgeonDay(s, d) => put_dotted(buffer, at, "surgeonday", &[s.0, d.0]),
+        Cell::RoomShift(r, k) => put_dotted(buffer, at, "roomshift", &[r.0, k.0]),
+        Cell::NurseShift(n, k) => put_dotted(buffer, at, "nurseshift", &[n.0, k.0]),
+        Cell::Care(x) => put_dotted(buffer, at, "care", &[x.0]),
     }
 }
 
 // Each number with a comma before it.
 #[inline(always)]
-fn put_each(room: &mut [u8], at: usize, xs: &[i64]) -> usize
-    requires { at + 22 * length xs.now ≤ length room.old }
-    ensures text { take result room.new ≡ take at room.old ++ marked 44 (map signed_decimal xs.now) }
+fn put_each(buffer: &mut [u8], at: usize, xs: &[i64]) -> usize
+    requires { at + 22 * length xs.now ≤ length buffer.old }
+    ensures text { take result buffer.new ≡ take at buffer.old ++ marked 44 (map signed_decimal xs.now) }
     ensures within { result ≤ at + 22 * length xs.now }
 {
     let mut end = at;
     for x in xs {
-        end = put_byte(room, end, b',');
-        end = put_signed(room, end, *x);
+        end = put_byte(buffer, end, b',');
+        end = put_signed(buffer, end, *x);
     }
     end
 }
@@ -115,63 +115,63 @@ fn are_zero(xs: &[i64]) -> bool
 
 // Four numbers, each with a comma before it. Most of those of a price are 0.
 #[inline(always)]
-fn put_four(room: &mut [u8], at: usize, xs: &[i64]) -> usize
+fn put_four(buffer: &mut [u8], at: usize, xs: &[i64]) -> usize
     requires four { length xs.now ≡ 4 }
-    requires room { at + 88 ≤ length room.old }
-    ensures text { take result room.new ≡ take at room.old ++ marked 44 (map signed_decimal xs.now) }
+    requires room { at + 88 ≤ length buffer.old }
+    ensures text { take result buffer.new ≡ take at buffer.old ++ marked 44 (map signed_decimal xs.now) }
     ensures within { result ≤ at + 88 }
 {
     if are_zero(xs) {
-        put_text(room, at, ",0,0,0,0")
+        put_text(buffer, at, ",0,0,0,0")
     } else {
-        put_each(room, at, xs)
+        put_each(buffer, at, xs)
     }
 }
 
 // Eight numbers, each with a comma before it.
-fn put_numbers(room: &mut [u8], at: usize, xs: &[i64]) -> usize
+fn put_numbers(buffer: &mut [u8], at: usize, xs: &[i64]) -> usize
     requires eight { length xs.now ≡ 8 }
-    requires room { at + 176 ≤ length room.old }
-    ensures text { take result room.new ≡ take at room.old ++ marked 44 (map signed_decimal xs.now) }
+    requires room { at + 176 ≤ length buffer.old }
+    ensures text { take result buffer.new ≡ take at buffer.old ++ marked 44 (map signed_decimal xs.now) }
     ensures within { result ≤ at + 176 }
 {
-    let end = put_four(room, at, &xs[..4]);
-    put_four(room, end, &xs[4..])
+    let end = put_four(buffer, at, &xs[..4]);
+    put_four(buffer, end, &xs[4..])
 }
 
 /// Writes a price.
-pub(crate) fn put_price(room: &mut [u8], at: usize, price: &Bill) -> usize
-    requires { at + 374 ≤ length room.old }
-    ensures text { take result room.new ≡ take at room.old ++ price_text price.now }
+pub(crate) fn put_price(buffer: &mut [u8], at: usize, price: &Bill) -> usize
+    requires { at + 374 ≤ length buffer.old }
+    ensures text { take result buffer.new ≡ take at buffer.old ++ price_text price.now }
     ensures within { result ≤ at + 374 }
 {
     let broken: &[i64] = &price.v;
-    let end = put_signed(room, at, price.v[0]);
-    let end = put_numbers(room, end, &broken[1..]);
-    put_numbers(room, end, &price.s)
+    let end = put_signed(buffer, at, price.v[0]);
+    let end = put_numbers(buffer, end, &broken[1..]);
+    put_numbers(buffer, end, &price.s)
 }
 
 /// Writes a verdict.
-pub(crate) fn put_verdict(room: &mut [u8], at: usize, verdict: &Verdict) -> usize
-    requires { at + 100 ≤ length room.old }
-    ensures text { take result room.new ≡ take at room.old ++ verdict_text verdict.now }
+pub(crate) fn put_verdict(buffer: &mut [u8], at: usize, verdict: &Verdict) -> usize
+    requires { at + 100 ≤ length buffer.old }
+    ensures text { take result buffer.new ≡ take at buffer.old ++ verdict_text verdict.now }
     ensures within { result ≤ at + 100 }
 {
     match *verdict {
-        Verdict::Accepted => put_text(room, at, "accepted"),
-        Verdict::Declined => put_text(room, at, "declined"),
-        Verdict::Frozen => put_text(room, at, "frozen"),
+        Verdict::Accepted => put_text(buffer, at, "accepted"),
+        Verdict::Declined => put_text(buffer, at, "declined"),
+        Verdict::Frozen => put_text(buffer, at, "frozen"),
         Verdict::Stale {
             cell,
             at_seen,
             at_place,
         } => {
-            let end = put_text(room, at, "stale:");
-            let end = put_cell(room, end, &cell);
-            let end = put_byte(room, end, b':');
-            let end = put_number(room, end, u64::from(at_seen));
-            let end = put_byte(room, end, b':');
-            put_number(room, end, u64::from(at_place))
+            let end = put_text(buffer, at, "stale:");
+            let end = put_cell(buffer, end, &cell);
+            let end = put_byte(buffer, end, b':');
+            let end = put_number(buffer, end, u64::from(at_seen));
+            let end = put_byte(buffer, end, b':');
+            put_number(buffer, end, u64::from(at_place))
         }
     }
 }
@@ -182,27 +182,27 @@ pub fn named_text(name: &str, first: u32, rest: &[u32], out: &mut Vec<u8>) -> Re
     requires few { length rest.now ≤ 3 }
     ensures { OnOk result (out.new.items ≡ out.old.items ++ named name.now (first ∷ rest.now)) }
 {
-    let mut room = [0; 100];
-    let len = put_named(&mut room, 0, name, first, rest);
-    out.extend_from_slice(&room[..len])
+    let mut buffer = [0; 100];
+    let len = put_named(&mut buffer, 0, name, first, rest);
+    out.extend_from_slice(&buffer[..len])
 }
 
 /// Appends the seventeen numbers of a price, parted by commas.
 pub fn price_text(price: &Bill, out: &mut Vec<u8>) -> Result<(), AllocError>
     ensures { OnOk result (out.new.items ≡ out.old.items ++ price_text price.now) }
 {
-    let mut room = [0; 374];
-    let len = put_price(&mut room, 0, price);
-    out.extend_from_slice(&room[..len])
+    let mut buffer = [0; 374];
+    let len = put_price(&mut buffer, 0, price);
+    out.extend_from_slice(&buffer[..len])
 }
 
 /// Appends the text of a verdict.
 pub fn verdict_text(verdict: &Verdict, out: &mut Vec<u8>) -> Result<(), AllocError>
     ensures { OnOk result (out.new.items ≡ out.old.items ++ verdict_text verdict.now) }
 {
-    let mut room = [0; 100];
-    let len = put_verdict(&mut room, 0, verdict);
-    out.extend_from_slice(&room[..len])
+    let mut buffer = [0; 100];
+    let len = put_verdict(&mut buffer, 0, verdict);
+    out.extend_from_slice(&buffer[..len])
 }
 
 /// Appends the text of a move. Where memory runs out, `out` holds what it held, followed by a prefix of that text.
@@ -211,7 +211,7 @@ pub fn text(mv: &Move, out: &mut Vec<u8>) -> Result<(), AllocError>
     ensures ok { OnOk result (out.new.items ≡ out.old.items ++ move_text mv.now) }
     ensures err { OnErr result (IsPart out.old.items out.new.items (move_text mv.now)) }
 {
-    let mut room = [0; 94];
-    let len = put_move(&mut room, 0, mv);
-    out.extend_from_slice(&room[..len])
+    let mut buffer = [0; 94];
+    let len = put_move(&mut buffer, 0, mv);
+    out.extend_from_slice(&buffer[..len])
 }

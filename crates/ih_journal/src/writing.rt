@@ -1,4 +1,4 @@
-//! Bytes, texts and numbers, written behind what stands in some room already: each answers where the text then ends.
+//! Bytes, texts and numbers, written into a buffer after what stands there already: each answers where the text then ends.
 
 ghost use Rattle.std.specs.Prelude.{◌≡◌, ◌+◌, ◌≤◌, ◌<◌, ◌++◌, ◌∷◌, [], length, take, decimal};
 ghost use Rattle.std.specs.Fmt.{signed_decimal};
@@ -8,26 +8,26 @@ use itoa::Buffer;
 
 /// Writes a byte.
 #[inline(always)]
-pub(crate) fn put_byte(room: &mut [u8], at: usize, byte: u8) -> usize
-    requires { at < length room.old }
-    ensures text { take result room.new ≡ take at room.old ++ byte ∷ [] }
+pub(crate) fn put_byte(buffer: &mut [u8], at: usize, byte: u8) -> usize
+    requires { at < length buffer.old }
+    ensures text { take result buffer.new ≡ take at buffer.old ++ byte ∷ [] }
     ensures end { result ≡ at + 1 }
 {
-    room[at] = byte;
+    buffer[at] = byte;
     at + 1
 }
 
 /// Writes a text.
 #[inline(always)]
-pub(crate) fn put_text(room: &mut [u8], at: usize, text: &str) -> usize
-    requires { at + length text.now ≤ length room.old }
-    ensures text { take result room.new ≡ take at room.old ++ text.now }
+pub(crate) fn put_text(buffer: &mut [u8], at: usize, text: &str) -> usize
+    requires { at + length text.now ≤ length buffer.old }
+    ensures text { take result buffer.new ≡ take at buffer.old ++ text.now }
     ensures end { result ≡ at + length text.now }
 {
     let bytes = text.as_bytes();
     let mut end = at;
     for b in bytes {
-        room[end] = *b;
+        buffer[end] = *b;
         end += 1;
     }
     end
@@ -35,31 +35,31 @@ pub(crate) fn put_text(room: &mut [u8], at: usize, text: &str) -> usize
 
 /// Writes a number.
 #[inline(always)]
-pub(crate) fn put_number(room: &mut [u8], at: usize, number: u64) -> usize
-    requires { at + 20 ≤ length room.old }
-    ensures text { take result room.new ≡ take at room.old ++ decimal number }
+pub(crate) fn put_number(buffer: &mut [u8], at: usize, number: u64) -> usize
+    requires { at + 20 ≤ length buffer.old }
+    ensures text { take result buffer.new ≡ take at buffer.old ++ decimal number }
     ensures within { result ≤ at + 20 }
 {
     if number < 1000 {
-        put_small(room, at, number)
+        put_small(buffer, at, number)
     } else {
-        put_text(room, at, Buffer::new().format(number))
+        put_text(buffer, at, Buffer::new().format(number))
     }
 }
 
 /// Writes a number with its sign. Most of those of a price are 0.
 #[inline(always)]
-pub(crate) fn put_signed(room: &mut [u8], at: usize, value: i64) -> usize
-    requires { at + 21 ≤ length room.old }
-    ensures text { take result room.new ≡ take at room.old ++ signed_decimal value }
+pub(crate) fn put_signed(buffer: &mut [u8], at: usize, value: i64) -> usize
+    requires { at + 21 ≤ length buffer.old }
+    ensures text { take result buffer.new ≡ take at buffer.old ++ signed_decimal value }
     ensures within { result ≤ at + 21 }
 {
     if value == 0 {
-        put_byte(room, at, b'0')
+        put_byte(buffer, at, b'0')
     } else if value < 0 {
-        let end = put_byte(room, at, b'-');
-        put_number(room, end, value.unsigned_abs())
+        let end = put_byte(buffer, at, b'-');
+        put_number(buffer, end, value.unsigned_abs())
     } else {
-        put_number(room, at, value.unsigned_abs())
+        put_number(buffer, at, value.unsigned_abs())
     }
 }

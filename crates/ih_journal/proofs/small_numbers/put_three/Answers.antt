@@ -12,4 +12,4 @@ returns-clause-text c =
     rw end
     (c.put_byte.ensures.text
     ∙ rw (c.put_byte-end-2.ensures.text, c.put_byte-end.ensures.text)
-    (three-written (take c.args.at c.args.room.now) TEXTS c.args.from c.requires.from))
+    (three-written (take c.args.at c.args.buffer.now) TEXTS c.args.from c.requires.from))

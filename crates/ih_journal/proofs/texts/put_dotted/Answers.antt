@@ -7,4 +7,4 @@ pub returns-clause-text : goal.returns-clause-text
 returns-clause-text c =
     c.put_marked.ensures.text
     ∙ ap (λ (text : List ℕ). text ++ marked 46 (map decimal c.args.ns.now)) c.put_text-end.ensures.text
-    ∙ dotted-pieces (take c.args.at c.args.room.now) c.args.name.now c.args.ns.now
+    ∙ dotted-pieces (take c.args.at c.args.buffer.now) c.args.name.now c.args.ns.now

@@ -13,4 +13,4 @@ returns-clause-text c =
     let first = simp to_z-of_z at c.put_signed-end.ensures.text in
     let whole : take (length c.args.price.now.v - 1) (drop 1 c.args.price.now.v) ≡ drop 1 c.args.price.now.v = grind (arith, common_steps) in
     c.put_numbers.ensures.text
-    ∙ rw (c.put_numbers-end.ensures.text, first, whole) (price-pieces (take c.args.at c.args.room.now) c.args.price.now.v c.args.price.now.s some)
+    ∙ rw (c.put_numbers-end.ensures.text, first, whole) (price-pieces (take c.args.at c.args.buffer.now) c.args.price.now.v c.args.price.now.s some)
