@@ -64,7 +64,7 @@ pub trait Offers: Drop {
     fn become_offer(
         &mut self,
         worker: u32,
-        number: u32,
+        attempt_no: u32,
         seen: u32,
         attempt: &Self::Attempt,
         price: &Bill,
@@ -74,7 +74,7 @@ pub trait Offers: Drop {
         ensures { offered self.new
             ≡ record (offered self.old) {
               worker = worker;
-              number = number;
+              number = attempt_no;
               seen = seen;
               moves = Self.Attempt.moves attempt.now;
               price = price.now;
@@ -131,7 +131,7 @@ pub trait Logged: Copy {
     /// The entry of one try.
     fn made(
         worker: u32,
-        number: u32,
+        attempt_no: u32,
         again: u32,
         seen: u32,
         attempt: &Self::Attempt,
@@ -142,7 +142,7 @@ pub trait Logged: Copy {
         ensures { tried result
             ≡ record {
               worker = worker;
-              number = number;
+              number = attempt_no;
               again = again;
               seen = seen;
               moves = Self.Attempt.moves attempt.now;

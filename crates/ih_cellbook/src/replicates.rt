@@ -40,11 +40,11 @@ pub trait Replicates: Drop {
 
     /// Makes the last offer that of its worker for an attempt of this number, priced after the entries that it stands
     /// for, with the cells that its verdict rests on: none where it is frozen or too dear.
-    fn offer(&mut self, attempt: &<Self::Entry as Logged>::Attempt, number: u32)
+    fn offer(&mut self, attempt: &<Self::Entry as Logged>::Attempt, attempt_no: u32)
         requires { AreMoves (copied self.old).base.instance (Self.Entry.Attempt.moves attempt.now) }
-        ensures offer { IsOfferOf (copied self.old) number (Self.Entry.Attempt.moves attempt.now)
+        ensures offer { IsOfferOf (copied self.old) attempt_no (Self.Entry.Attempt.moves attempt.now)
             (copied self.new).last }
-        ensures right { IsRightFor (copied self.old) number (copied self.new).last }
+        ensures right { IsRightFor (copied self.old) attempt_no (copied self.new).last }
         ensures base { (copied self.new).base ≡ (copied self.old).base }
         ensures worker { (copied self.new).worker ≡ (copied self.old).worker }
         ensures same { StandsAs (copied self.old) (copied self.new) };

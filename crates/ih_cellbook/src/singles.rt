@@ -63,14 +63,14 @@ impl Offers for Offer {
     fn become_offer(
         &mut self,
         worker: u32,
-        number: u32,
+        attempt_no: u32,
         seen: u32,
         attempt: &Move,
         price: &Bill,
         frozen: bool,
     ) {
         self.worker = worker;
-        self.number = number;
+        self.number = attempt_no;
         self.seen = seen;
         self.mv = *attempt;
         self.price = *price;
@@ -136,7 +136,7 @@ impl Logged for Entry {
 
     fn made(
         worker: u32,
-        number: u32,
+        attempt_no: u32,
         again: u32,
         seen: u32,
         attempt: &Move,
@@ -145,7 +145,7 @@ impl Logged for Entry {
     ) -> Entry {
         Entry {
             worker,
-            number,
+            number: attempt_no,
             again,
             seen,
             mv: *attempt,

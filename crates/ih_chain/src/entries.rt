@@ -67,14 +67,14 @@ impl Offers for ChainOffer {
     fn become_offer(
         &mut self,
         worker: u32,
-        number: u32,
+        attempt_no: u32,
         seen: u32,
         attempt: &Chain,
         price: &Bill,
         _frozen: bool,
     ) {
         self.worker = worker;
-        self.number = number;
+        self.number = attempt_no;
         self.seen = seen;
         self.moves = *attempt;
         self.price = *price;
@@ -138,7 +138,7 @@ impl Logged for ChainEntry {
 
     fn made(
         worker: u32,
-        number: u32,
+        attempt_no: u32,
         _again: u32,
         seen: u32,
         attempt: &Chain,
@@ -147,7 +147,7 @@ impl Logged for ChainEntry {
     ) -> ChainEntry {
         ChainEntry {
             worker,
-            number,
+            number: attempt_no,
             seen,
             moves: *attempt,
             price: *price,

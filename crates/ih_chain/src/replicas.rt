@@ -75,46 +75,46 @@ impl<'a> ChainReplica<'a> {
     /// The offer of its worker for a chain of this number, priced after the entries that it stands for, with the cells
     /// of the chain's footprint there, each with its version. The chain is made on the ledgers and taken back. `offer`
     /// is cheaper where the verdict rests on no cell.
-    pub fn price(&mut self, moves: &Chain, number: u32) -> &ChainOffer
+    pub fn price(&mut self, moves: &Chain, attempt_no: u32) -> &ChainOffer
         requires { AreMoves self.old.base.instance moves.now }
-        ensures offer { IsPricedOf self.old number moves.now (chain_offered result.now) }
+        ensures offer { IsPricedOf self.old attempt_no moves.now (chain_offered result.now) }
         ensures within { IsWithin (10 ^ 11) result.now.price }
-        ensures right { IsRightFor self.old number (chain_offered result.now) }
+        ensures right { IsRightFor self.old attempt_no (chain_offered result.now) }
         ensures* same { sem 𝓛
             (RestsAs self.entry (λ r. (r.base ≡ self.old.base) × (r.worker ≡ self.old.worker) × StandsAs self.old r)) }
     {
-        self.prepare_price(moves, number);
+        self.prepare_price(moves, attempt_no);
         self.last()
     }
 
     /// The same, but with the cells that the verdict rests on: those of the footprint where the price's score is at
     /// most what the number may cost, and else none.
-    pub fn offer(&mut self, moves: &Chain, number: u32) -> &ChainOffer
+    pub fn offer(&mut self, moves: &Chain, attempt_no: u32) -> &ChainOffer
         requires { AreMoves self.old.base.instance moves.now }
-        ensures offer { IsOfferOf self.old number moves.now (chain_offered result.now) }
+        ensures offer { IsOfferOf self.old attempt_no moves.now (chain_offered result.now) }
         ensures within { IsWithin (10 ^ 11) result.now.price }
-        ensures right { IsRightFor self.old number (chain_offered result.now) }
+        ensures right { IsRightFor self.old attempt_no (chain_offered result.now) }
         ensures* same { sem 𝓛
             (RestsAs self.entry (λ r. (r.base ≡ self.old.base) × (r.worker ≡ self.old.worker) × StandsAs self.old r)) }
     {
-        self.prepare_offer(moves, number);
+        self.prepare_offer(moves, attempt_no);
         self.last()
     }
 
-    fn prepare_price(&mut self, moves: &Chain, number: u32)
+    fn prepare_price(&mut self, moves: &Chain, attempt_no: u32)
         requires { AreMoves self.old.base.instance moves.now }
-        ensures made { self.new ≡ record self.old { last = priced_of self.old number moves.now } }
+        ensures made { self.new ≡ record self.old { last = priced_of self.old attempt_no moves.now } }
         ensures within { IsWithin (10 ^ 11) self.new.last.price }
     {
-        self.replica.prepare_price(moves, number);
+        self.replica.prepare_price(moves, attempt_no);
     }
 
-    fn prepare_offer(&mut self, moves: &Chain, number: u32)
+    fn prepare_offer(&mut self, moves: &Chain, attempt_no: u32)
         requires { AreMoves self.old.base.instance moves.now }
-        ensures made { self.new ≡ record self.old { last = offer_of self.old number moves.now } }
+        ensures made { self.new ≡ record self.old { last = offer_of self.old attempt_no moves.now } }
         ensures within { IsWithin (10 ^ 11) self.new.last.price }
     {
-        self.replica.prepare_offer(moves, number);
+        self.replica.prepare_offer(moves, attempt_no);
     }
 
     fn last(&self) -> &ChainOffer

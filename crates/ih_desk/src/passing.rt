@@ -6,9 +6,9 @@ use std::sync::Wait;
 
 /// What a worker calls before and after each offer.
 pub(crate) trait PassesGate {
-    fn before<R: Wait>(&self, rt: &R, worker: u32, number: u32);
+    fn before<R: Wait>(&self, rt: &R, worker: u32, attempt_no: u32);
 
-    fn after<R: Wait>(&self, rt: &R, worker: u32, number: u32);
+    fn after<R: Wait>(&self, rt: &R, worker: u32, attempt_no: u32);
 }
 
 /// A gate that workers share, as each of them calls it.
@@ -17,11 +17,11 @@ pub(crate) struct SharedGate<'g, G> {
 }
 
 impl<'g, G: Gate> PassesGate for SharedGate<'g, G> {
-    fn before<R: Wait>(&self, rt: &R, worker: u32, number: u32) {
-        self.gate.before(rt, worker, number);
+    fn before<R: Wait>(&self, rt: &R, worker: u32, attempt_no: u32) {
+        self.gate.before(rt, worker, attempt_no);
     }
 
-    fn after<R: Wait>(&self, rt: &R, worker: u32, number: u32) {
-        self.gate.after(rt, worker, number);
+    fn after<R: Wait>(&self, rt: &R, worker: u32, attempt_no: u32) {
+        self.gate.after(rt, worker, attempt_no);
     }
 }

@@ -118,9 +118,9 @@ impl<'a, C: Replicates> WorkerLoop<'a, C> {
         ensures finished { HasFinished (base_of desk.now) self.old.moves_each (number_of seat.entry) (history result) }
     {
         let mut next = seat;
-        for number in 0..self.options.moves {
+        for attempt_no in 0..self.options.moves {
             let attempt = drawn(self.inst, &mut self.stream, self.moves_each);
-            next = self.make_attempt(rt, desk, next, gate, number, &attempt);
+            next = self.make_attempt(rt, desk, next, gate, attempt_no, &attempt);
         }
         next
     }
@@ -132,19 +132,19 @@ impl<'a, C: Replicates> WorkerLoop<'a, C> {
         desk: &DeskOf<'a, C::Entry>,
         seat: DeskSeat<'a, C::Entry>,
         gate: &P,
-        number: u32,
+        attempt_no: u32,
         attempt: &<C::Entry as Logged>::Attempt,
     ) -> DeskSeat<'a, C::Entry>
         requires may { MayTry desk.now seat (C.Entry.Attempt.moves attempt.now) self.old }
-        requires next { IsNext (base_of desk.now).options (history seat) (number_of seat) number 0 }
+        requires next { IsNext (base_of desk.now).options (history seat) (number_of seat) attempt_no 0 }
         requires drawn { C.Entry.Attempt.moves attempt.now
-            ≡ attempt_of (base_of desk.now) self.old.moves_each (number_of seat) number }
+            ≡ attempt_of (base_of desk.now) self.old.moves_each (number_of seat) attempt_no }
         requires earlier { AreDrawn (base_of desk.now) self.old.moves_each (number_of seat) (history seat) }
         ensures own { IsSeatAt desk.now result }
         ensures number { number_of result ≡ number_of seat.entry }
         ensures caught_up { HasCaughtUp (base_of desk.now) self.old.moves_each (number_of seat.entry)
             (history result) self.new }
-        ensures made { HasMade (base_of desk.now).options (history result) (number_of seat.entry) (number + 1) }
+        ensures made { HasMade (base_of desk.now).options (history result) (number_of seat.entry) (attempt_no + 1) }
         ensures drawn { AreDrawn (base_of desk.now) self.old.moves_each (number_of seat.entry) (history result) }
         ensures turns { credit (turns_left seat.entry) self.old ≤ credit (turns_left result) self.new }
         ensures stream { self.new.stream ≡ self.old.stream }
@@ -152,7 +152,7 @@ impl<'a, C: Replicates> WorkerLoop<'a, C> {
         let mut next = seat;
         let mut again = 0;
         loop {
-            let (tried, verdict) = self.try_once(rt, desk, next, gate, number, attempt);
+            let (tried, verdict) = self.try_once(rt, desk, next, gate, attempt_no, attempt);
             if !is_stale(&verdict) || again == self.options.retries {
                 return tried;
             }
@@ -170,25 +170,25 @@ impl<'a, C: Replicates> WorkerLoop<'a, C> {
         desk: &DeskOf<'a, C::Entry>,
         seat: DeskSeat<'a, C::Entry>,
         gate: &P,
-        number: u32,
+        attempt_no: u32,
         attempt: &<C::Entry as Logged>::Attempt,
     ) -> (DeskSeat<'a, C::Entry>, Verdict)
         requires may { MayTry desk.now seat (C.Entry.Attempt.moves attempt.now) self.old }
-        requires next { next_number (base_of desk.now).options (history seat) (number_of seat) ≡ Some number }
+        requires next { next_number (base_of desk.now).options (history seat) (number_of seat) ≡ Some attempt_no }
         ensures own { IsSeatAt desk.now result.0 }
         ensures number { number_of result.0 ≡ number_of seat.entry }
         ensures caught_up { HasCaughtUp (base_of desk.now) self.old.moves_each (number_of seat.entry)
             (history result.0) self.new }
-        ensures attempted { HasAttempted (base_of desk.now).options (number_of seat.entry) number
+        ensures attempted { HasAttempted (base_of desk.now).options (number_of seat.entry) attempt_no
             (C.Entry.Attempt.moves attempt.now) result.1 (history seat.entry) (history result.0) }
         ensures turns { credit (turns_left seat.entry) self.old ≤ credit (turns_left result.0) self.new }
         ensures stream { self.new.stream ≡ self.old.stream }
     {
         let worker = seat.number();
-        self.replica.offer(attempt, number);
-        gate.before(rt, worker, number);
+        self.replica.offer(attempt, attempt_no);
+        gate.before(rt, worker, attempt_no);
         let (seat, verdict) = desk.offer_and_look(rt, seat, self.replica.last(), &mut self.news);
-        gate.after(rt, worker, number);
+        gate.after(rt, worker, attempt_no);
         let seat = self.catch_up(rt, desk, seat);
         (seat, verdict)
     }

@@ -49,12 +49,13 @@ impl Options {
                 <= MAX_ENTRIES
     }
 
-    /// The greatest score at which a worker's move `index` is accepted: the heat, falling to 0 with the moves.
-    pub fn theta(&self, index: u32) -> i64
+    /// The greatest score at which a worker's attempt of this number is accepted: the heat, falling to 0 with the
+    /// attempts.
+    pub fn theta(&self, attempt_no: u32) -> i64
         requires lawful { IsLawful self.now }
-        requires below { index < self.now.moves }
-        ensures { result ≡ theta self.now index }
+        requires below { attempt_no < self.now.moves }
+        ensures { result ≡ theta self.now attempt_no }
     {
-        (self.heat as u64 * (self.moves - index) as u64 / self.moves as u64) as i64
+        (self.heat as u64 * (self.moves - attempt_no) as u64 / self.moves as u64) as i64
     }
 }

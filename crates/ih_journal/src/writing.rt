@@ -1,4 +1,5 @@
-//! Bytes, texts and numbers, written into a buffer after what stands there already: each answers where the text then ends.
+//! Bytes, texts and numbers, written into a buffer after what stands there already. Each answers where the text then
+//! ends.
 
 ghost use Rattle.std.specs.Prelude.{◌≡◌, ◌+◌, ◌≤◌, ◌<◌, ◌++◌, ◌∷◌, [], length, take, decimal};
 ghost use Rattle.std.specs.Fmt.{signed_decimal};

@@ -16,12 +16,12 @@ use ih_journal::Options;
 use ih_tables::{Bill, Instance};
 
 // What an attempt of this number may cost at most: nothing, past the last of them.
-fn most_at(options: &Options, number: u32) -> i64
+fn most_at(options: &Options, attempt_no: u32) -> i64
     requires { IsLawful options.now }
-    ensures { result ≡ theta options.now number }
+    ensures { result ≡ theta options.now attempt_no }
 {
-    if number < options.moves {
-        options.theta(number)
+    if attempt_no < options.moves {
+        options.theta(attempt_no)
     } else {
         0
     }
@@ -33,14 +33,14 @@ pub(crate) fn is_compared(
     inst: &Instance,
     options: &Options,
     frozen: bool,
-    number: u32,
+    attempt_no: u32,
     price: &Bill,
 ) -> bool
     requires lawful { IsLawful options.now }
     requires within { IsWithin (10 ^ 11) price.now }
-    ensures { result ≡ is_compared inst.now.draft options.now frozen number price.now }
+    ensures { result ≡ is_compared inst.now.draft options.now frozen attempt_no price.now }
 {
-    !frozen && price.score(options.hard, inst.weights()) <= most_at(options, number)
+    !frozen && price.score(options.hard, inst.weights()) <= most_at(options, attempt_no)
 }
 
 // Whether the entry is that of the offer, and the offer read any cells.

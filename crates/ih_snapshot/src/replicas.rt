@@ -169,61 +169,63 @@ impl<'a, E: Logged> Replica<'a, E> {
     /// The offer of its worker for an attempt of this number, priced after the entries that it stands for: the price,
     /// whether the attempt writes a choice before the freeze day, and the cells of the attempt's footprint there, each
     /// with its version. `offer` is cheaper where the verdict rests on no cell.
-    pub fn price(&mut self, attempt: &E::Attempt, number: u32) -> &E::Offer
+    pub fn price(&mut self, attempt: &E::Attempt, attempt_no: u32) -> &E::Offer
         requires { AreMoves self.old.base.instance (E.Attempt.moves attempt.now) }
-        ensures offer { IsPricedOf self.old number (E.Attempt.moves attempt.now) (E.Offer.offered result.now) }
+        ensures offer { IsPricedOf self.old attempt_no (E.Attempt.moves attempt.now) (E.Offer.offered result.now) }
         ensures within { IsWithin (10 ^ 11) (E.Offer.offered result.now).price }
-        ensures right { IsRightFor self.old number (E.Offer.offered result.now) }
+        ensures right { IsRightFor self.old attempt_no (E.Offer.offered result.now) }
         ensures* same { sem 𝓛
             (RestsAs E.row E.Attempt.row E.Offer.row E.Logged E.Attempt.Attempted E.Offer.Offers self.entry
             (λ r. (r.base ≡ self.old.base) × (r.worker ≡ self.old.worker) × StandsAs self.old r)) }
     {
-        self.prepare_price(attempt, number);
+        self.prepare_price(attempt, attempt_no);
         self.last()
     }
 
     /// The same, but with the cells that the verdict rests on: those of the footprint where the attempt isn't frozen
     /// and the price's score is at most what its number may cost, and else none.
-    pub fn offer(&mut self, attempt: &E::Attempt, number: u32) -> &E::Offer
+    pub fn offer(&mut self, attempt: &E::Attempt, attempt_no: u32) -> &E::Offer
         requires { AreMoves self.old.base.instance (E.Attempt.moves attempt.now) }
-        ensures offer { IsOfferOf self.old number (E.Attempt.moves attempt.now) (E.Offer.offered result.now) }
+        ensures offer { IsOfferOf self.old attempt_no (E.Attempt.moves attempt.now) (E.Offer.offered result.now) }
         ensures within { IsWithin (10 ^ 11) (E.Offer.offered result.now).price }
-        ensures right { IsRightFor self.old number (E.Offer.offered result.now) }
+        ensures right { IsRightFor self.old attempt_no (E.Offer.offered result.now) }
         ensures* same { sem 𝓛
             (RestsAs E.row E.Attempt.row E.Offer.row E.Logged E.Attempt.Attempted E.Offer.Offers self.entry
             (λ r. (r.base ≡ self.old.base) × (r.worker ≡ self.old.worker) × StandsAs self.old r)) }
     {
-        self.prepare_offer(attempt, number);
+        self.prepare_offer(attempt, attempt_no);
         self.last()
     }
 
     /// Makes the last offer that of `offer`. For users of the crate that keep a replica in a type of their own.
-    pub fn prepare_offer(&mut self, attempt: &E::Attempt, number: u32)
+    pub fn prepare_offer(&mut self, attempt: &E::Attempt, attempt_no: u32)
         requires { AreMoves self.old.base.instance (E.Attempt.moves attempt.now) }
-        ensures made { self.new ≡ record self.old { last = offer_of self.old number (E.Attempt.moves attempt.now) } }
+        ensures made { self.new
+            ≡ record self.old { last = offer_of self.old attempt_no (E.Attempt.moves attempt.now) } }
         ensures within { IsWithin (10 ^ 11) self.new.last.price }
     {
-        let compared = self.price_into_last(attempt, number);
+        let compared = self.price_into_last(attempt, attempt_no);
         self.read(attempt, compared);
     }
 
     /// Makes the last offer that of `price`. For users of the crate that keep a replica in a type of their own.
-    pub fn prepare_price(&mut self, attempt: &E::Attempt, number: u32)
+    pub fn prepare_price(&mut self, attempt: &E::Attempt, attempt_no: u32)
         requires { AreMoves self.old.base.instance (E.Attempt.moves attempt.now) }
-        ensures made { self.new ≡ record self.old { last = priced_of self.old number (E.Attempt.moves attempt.now) } }
+        ensures made { self.new
+            ≡ record self.old { last = priced_of self.old attempt_no (E.Attempt.moves attempt.now) } }
         ensures within { IsWithin (10 ^ 11) self.new.last.price }
     {
-        let _compared = self.price_into_last(attempt, number);
+        let _compared = self.price_into_last(attempt, attempt_no);
         self.read(attempt, true);
     }
 
     // Makes the offer for an attempt of this number the last one, without cells. Answers whether its verdict rests on
     // them.
-    fn price_into_last(&mut self, attempt: &E::Attempt, number: u32) -> bool
+    fn price_into_last(&mut self, attempt: &E::Attempt, attempt_no: u32) -> bool
         requires { AreMoves self.old.base.instance (E.Attempt.moves attempt.now) }
         ensures made { self.new
-            ≡ record self.old { last = offer_with self.old number (E.Attempt.moves attempt.now) [] } }
-        ensures compared { result ≡ asks_reads self.old number (E.Attempt.moves attempt.now) }
+            ≡ record self.old { last = offer_with self.old attempt_no (E.Attempt.moves attempt.now) [] } }
+        ensures compared { result ≡ asks_reads self.old attempt_no (E.Attempt.moves attempt.now) }
         ensures within { IsWithin (10 ^ 11) self.new.last.price }
     {
         let moves = attempt.as_slice();
@@ -236,9 +238,8 @@ impl<'a, E: Logged> Replica<'a, E> {
             moves,
             &mut self.writes,
         );
-        self.last
-            .become_offer(self.worker, number, self.seen, attempt, &price, frozen);
-        is_compared(self.inst, &self.options, frozen, number, &price)
+        self.last.become_offer(self.worker, attempt_no, self.seen, attempt, &price, frozen);
+        is_compared(self.inst, &self.options, frozen, attempt_no, &price)
     }
 
     // Notes the cells of an attempt's footprint in the last offer, where they are wanted.

@@ -24,8 +24,8 @@ impl<'a, E: Logged> Replicates for Replica<'a, E> {
         self.follow(accepted, until);
     }
 
-    fn offer(&mut self, attempt: &E::Attempt, number: u32) {
-        self.prepare_offer(attempt, number);
+    fn offer(&mut self, attempt: &E::Attempt, attempt_no: u32) {
+        self.prepare_offer(attempt, attempt_no);
     }
 
     fn last(&self) -> &E::Offer {

@@ -5,4 +5,4 @@ use Rattle.ih_chain.proofs.replicas.ChainReplica.prepare_offer.Goals as goal
 
 pub returns-clause-made : goal.returns-clause-made
 returns-clause-made c =
-    subst (λ (s : ReplicaState). c.prepare_offer.new.self ≡ record s { last = offer_of s c.args.number c.args.moves.now }) c.self.view_is c.prepare_offer.ensures.made
+    subst (λ (s : ReplicaState). c.prepare_offer.new.self ≡ record s { last = offer_of s c.args.attempt_no c.args.moves.now }) c.self.view_is c.prepare_offer.ensures.made

@@ -5,4 +5,4 @@ use Rattle.ih_chain.proofs.replicas.ChainReplica.prepare_price.Goals as goal
 
 pub returns-clause-made : goal.returns-clause-made
 returns-clause-made c =
-    subst (λ (s : ReplicaState). c.prepare_price.new.self ≡ record s { last = priced_of s c.args.number c.args.moves.now }) c.self.view_is c.prepare_price.ensures.made
+    subst (λ (s : ReplicaState). c.prepare_price.new.self ≡ record s { last = priced_of s c.args.attempt_no c.args.moves.now }) c.self.view_is c.prepare_price.ensures.made

@@ -12,7 +12,7 @@ use Rattle.ih_chain.proofs.replicas.ChainReplica.price.Goals as goal
 pub returns : goal.returns
 returns c =
     let r = c.args.self.now in
-    let n = c.args.number in
+    let n = c.args.attempt_no in
     let m = c.args.moves.now in
     let priced = c.prepare_price.ensures.made in
     let made : chain_offered c.last.result.now ≡ priced_of r n m = c.last.ensures ∙ ap (λ (s : ReplicaState). s.last) priced in (

@@ -13,7 +13,7 @@ use Rattle.ih_desk.proofs.worker_loop.WorkerLoop.make_attempt.Goals.{then-not-is
 
 pub try_once-tried-requires-clause-next : goal.try_once-tried-requires-clause-next
 try_once-tried-requires-clause-next g c =
-    subst (λ w. next_number (base_of c.args.desk.now).options (history c.loop-tried.next) w ≡ Some c.args.number) (sym c.loop-tried.invariant.number)
+    subst (λ w. next_number (base_of c.args.desk.now).options (history c.loop-tried.next) w ≡ Some c.args.attempt_no) (sym c.loop-tried.invariant.number)
     (next-number _ _ _ _ _ c.loop-tried.invariant.try)
 
 pub returns-then-not-is_stale-clause-made : goal.returns-then-not-is_stale-clause-made

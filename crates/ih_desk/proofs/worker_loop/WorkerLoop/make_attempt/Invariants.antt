@@ -11,7 +11,7 @@ invariant-loop-tried g l = record {
   own : IsSeatAt l.desk l.next;
   number : number_of l.next ≡ number_of l.fn.seat;
   caught_up : HasCaughtUp (base_of l.desk) l.fn.self.moves_each (number_of l.fn.seat) (history l.next) l.self;
-  try : IsNext (base_of l.desk).options (history l.next) (number_of l.fn.seat) l.number l.again;
+  try : IsNext (base_of l.desk).options (history l.next) (number_of l.fn.seat) l.attempt_no l.again;
   drawn : AreDrawn (base_of l.desk) l.fn.self.moves_each (number_of l.fn.seat) (history l.next);
   turns : credit (turns_left l.fn.seat) l.fn.self ≤ credit (turns_left l.next) l.self;
   stream : l.self.stream ≡ l.fn.self.stream;

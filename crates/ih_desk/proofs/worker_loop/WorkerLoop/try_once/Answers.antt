@@ -26,7 +26,7 @@ offer_and_look-seat-requires g c =
     let seen = subst (λ (x : WorkerLoopState). HasSeenOwn H (number_of c.args.seat) x.replica.seen) (sym c.self.view_is) c.requires.may.caught_up.seen in
     let offered = c.offer.ensures.offer b (take r.seen H) stands in
     let own = sym (offered.worker ∙ within.own.worker) in
-    let right = offered-right b H r stands c.args.number (g.C.Entry.Attempt.Attempted.moves c.args.attempt.now) o c.offer.ensures.offer c.offer.ensures.right (
+    let right = offered-right b H r stands c.args.attempt_no (g.C.Entry.Attempt.Attempted.moves c.args.attempt.now) o c.offer.ensures.offer c.offer.ensures.right (
       subst (λ w. w < b.options.workers) own c.requires.may.own.number,
       subst (λ w. next_number b.options H w ≡ Some o.number) own (c.requires.next ∙ ap (λ k. Some k) (sym offered.number)),
       subst (λ w. HasNoneBy w (drop o.seen H)) own (subst (λ k. HasNoneBy (number_of c.args.seat) (drop k H)) (stands.seen ∙ sym offered.seen) (none-past (number_of c.args.seat) r.seen H seen)),
@@ -88,7 +88,7 @@ returns-clause-attempted g c =
     let own = ap (λ (x : WorkerLoopState). x.replica.worker) c.self.view_is ∙ c.requires.may.caught_up.within.own.worker in
     let G = history c.offer_and_look-seat.result.0 in
     let F = history c.catch_up-seat.result in
-    attempted-later (base_of c.args.desk.now).options (number_of c.args.seat) c.args.number _ c.offer_and_look-seat.result.1 (history c.args.seat) G F
+    attempted-later (base_of c.args.desk.now).options (number_of c.args.seat) c.args.attempt_no _ c.offer_and_look-seat.result.1 (history c.args.seat) G F
     (attempted _ _ _ _ (g.C.Entry.Offer.Offers.offered c.last.result.now) _ _ _
     (ap (λ (x : Offered). x.worker) c.last.ensures ∙ (offered.worker ∙ own))
     (ap (λ (x : Offered). x.number) c.last.ensures ∙ offered.number)

@@ -8,7 +8,7 @@ use Rattle.ih_snapshot.proofs.replicas.Replica.prepare_offer.Goals as goal
 pub returns-clause-made : goal.returns-clause-made
 returns-clause-made g c =
     let r = c.args.self.now in
-    let n = c.args.number in
+    let n = c.args.attempt_no in
     let m = g.E.Attempt.Attempted.moves c.args.attempt.now in
     c.read.ensures
     ∙ ap (λ (s : ReplicaState). record s { last = record s.last { reads = record s.last.reads { pairs = if c.price_into_last-compared.result then reads_of s m else s.last.reads.pairs } } })

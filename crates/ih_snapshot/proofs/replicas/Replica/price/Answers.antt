@@ -11,7 +11,7 @@ use Rattle.ih_snapshot.proofs.replicas.Replica.price.Goals as goal
 pub returns : goal.returns
 returns g c =
     let r = c.args.self.now in
-    let n = c.args.number in
+    let n = c.args.attempt_no in
     let m = g.E.Attempt.Attempted.moves c.args.attempt.now in
     let priced = c.prepare_price.ensures.made in
     let made : g.E.Offer.Offers.offered c.last.result.now ≡ priced_of r n m = c.last.ensures ∙ ap (λ (s : ReplicaState). s.last) priced in (

@@ -58,12 +58,12 @@ returns-clause-made g c =
     c.price_all_alone-price.ensures.price ∙ (ap (price_of_all v.instance v.plan) c.as_slice-moves.ensures ∙ ap (λ J. price_of_all J v.plan m) c.self.invariant.0.instance) in
     let frozen = frozen-here r.base c.plan.result.now v.plan m c.touches_frozen-frozen.result (tested c.self.inside.start c.self.inside.freeze c.self.inside.inst.now.draft c.plan.result.now c.as_slice-moves.result.now (g.E.Attempt.Attempted.moves c.args.attempt.now) c.touches_frozen-frozen.result
     c.touches_frozen-frozen.ensures c.as_slice-moves.ensures) (c.plan.ensures.value ∙ plan) in
-    let made = filled r c.args.number m c.price_all_alone-price.new.self.plan c.price_all_alone-price.result (record r.last.reads { pairs = [] }) c.touches_frozen-frozen.result plan price refl frozen in
+    let made = filled r c.args.attempt_no m c.price_all_alone-price.new.self.plan c.price_all_alone-price.result (record r.last.reads { pairs = [] }) c.touches_frozen-frozen.result plan price refl frozen in
     let mine : (let s : ReplicaState = record r { plan = c.price_all_alone-price.new.self.plan; last = g.E.Offer.Offers.offered c.become_offer.new.self } in s)
-    ≡ record r { last = offer_with r c.args.number m [] } =
+    ≡ record r { last = offer_with r c.args.attempt_no m [] } =
     ap (λ (o : Offered). let s : ReplicaState = record r { plan = c.price_all_alone-price.new.self.plan; last = o } in s) c.become_offer.ensures ∙ made in
     subst (λ (s : ReplicaState). (let t : ReplicaState = record r { plan = c.price_all_alone-price.new.self.plan; last = g.E.Offer.Offers.offered c.become_offer.new.self } in t)
-    ≡ record s { last = offer_with s c.args.number m [] }) c.self.view_is mine
+    ≡ record s { last = offer_with s c.args.attempt_no m [] }) c.self.view_is mine
 
 pub returns-clause-compared : goal.returns-clause-compared
 returns-clause-compared g c =
@@ -71,7 +71,7 @@ returns-clause-compared g c =
     let I = c.self.inside.inst.now.draft in
     let m = g.E.Attempt.Attempted.moves c.args.attempt.now in
     let o = c.self.inside.options in
-    let n = c.args.number in
+    let n = c.args.attempt_no in
     let base = base_with I c.self.inside.start o c.self.inside.freeze in
     let plan : c.price_all_alone-price.new.self.plan ≡ v.plan = ap (λ (s : LedgersState). s.plan) c.price_all_alone-price.ensures.same in
     let price : c.price_all_alone-price.result ≡ price_of_all I v.plan m =

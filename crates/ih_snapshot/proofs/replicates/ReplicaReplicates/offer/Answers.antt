@@ -8,7 +8,7 @@ use Rattle.ih_snapshot.proofs.replicates.ReplicaReplicates.offer.Goals as goal
 pub returns : goal.returns
 returns g c =
     let r = c.args.self.now in
-    let n = c.args.number in
+    let n = c.args.attempt_no in
     let m = g.E.Attempt.Attempted.moves c.args.attempt.now in
     let made = ap (λ (s : ReplicaState). s.last) c.prepare_offer.ensures.made in
     record {
