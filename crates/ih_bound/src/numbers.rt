@@ -60,10 +60,10 @@ fn begin_shift(
 }
 
 // How far a shift's number may rise: to where a nurse's slack ends; and which nurse's.
-fn highest(working: &[NurseNo], row: usize, old: u64, scratch: &Scratch) -> (u64, u32) {
+fn highest(working: &[NurseNo], begin: usize, old: u64, scratch: &Scratch) -> (u64, u32) {
     let mut highest = u64::MAX;
     let mut holder = u32::MAX;
-    let mut i = row;
+    let mut i = begin;
     for n in working {
         let cost = at(scratch.costs.as_slice(), i).max(old);
         let end = cost.saturating_add(at(scratch.slack.as_slice(), n.0 as usize));
@@ -77,8 +77,8 @@ fn highest(working: &[NurseNo], row: usize, old: u64, scratch: &Scratch) -> (u64
 }
 
 // Takes from the slack of each nurse what the nurse is spared as a shift's number rises.
-fn take_slack(working: &[NurseNo], row: usize, old: u64, new: u64, scratch: &mut Scratch) {
-    let mut i = row;
+fn take_slack(working: &[NurseNo], begin: usize, old: u64, new: u64, scratch: &mut Scratch) {
+    let mut i = begin;
     for n in working {
         let cost = at(scratch.costs.as_slice(), i).max(old);
         lower(
@@ -96,8 +96,8 @@ fn raise(inst: &Instance, stay: &Stay<'_>, shift: u32, limit: u64, scratch: &mut
 {
     let working = inst.working(Shift(shift));
     let old = at(scratch.numbers.as_slice(), shift as usize);
-    let row = row(inst, stay, shift);
-    let (end, holder) = highest(working, row, old, scratch);
+    let begin = row(inst, stay, shift);
+    let (end, holder) = highest(working, begin, old, scratch);
     put(
         scratch.holders.as_mut_slice(),
         shift as usize,
@@ -105,7 +105,7 @@ fn raise(inst: &Instance, stay: &Stay<'_>, shift: u32, limit: u64, scratch: &mut
     );
     let new = end.min(old.saturating_add(limit));
     if new > old {
-        take_slack(working, row, old, new, scratch);
+        take_slack(working, begin, old, new, scratch);
         put(scratch.numbers.as_mut_slice(), shift as usize, new);
     }
 }

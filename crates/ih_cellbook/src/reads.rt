@@ -25,12 +25,12 @@ impl Reads {
     ghost use Rattle.std.specs.Prelude.{◌≡◌, ◌<◌, ◌≤◌, ◌++◌, ◌∷◌, [], length, slice_index, All, IfOk};
     ghost use Rattle.ih_plan.specs.Sums.{tagged};
 
-    /// No cells, and room for some number of them.
-    pub fn new(alloc: Global, room: u32) -> Result<Reads, AllocError>
-        ensures { IfOk result (λ r. r ≡ record { pairs = []; room = room }) }
+    /// No cells yet, and room for `cells` of them.
+    pub fn new(alloc: Global, cells: u32) -> Result<Reads, AllocError>
+        ensures { IfOk result (λ r. r ≡ record { pairs = []; room = cells }) }
     {
-        let pairs = Vec::with_capacity(alloc, room as usize)?;
-        Ok(Reads { pairs, room })
+        let pairs = Vec::with_capacity(alloc, cells as usize)?;
+        Ok(Reads { pairs, room: cells })
     }
 
     /// Puts a cell by number, with its version, behind the others. It takes no memory.

@@ -19,10 +19,10 @@ use std::alloc::{AllocError, Global};
 const DAYS: u32 = 28;
 
 // The whole instance as a JSON value.
-fn generated_value(alloc: Global, number: u64) -> Result<Value, AllocError>
-    ensures { IsMade (generated_data number) result }
+fn generated_value(alloc: Global, seed: u64) -> Result<Value, AllocError>
+    ensures { IsMade (generated_data seed) result }
 {
-    let mut picks = Picks::of(number);
+    let mut picks = Picks::of(seed);
     let fixed = fixed_value(alloc, DAYS)?;
     let rooms = rows(alloc, &Rooms, &mut picks, 25)?;
     let housed = with_member(alloc, fixed, "rooms", Value::Array(rooms))?;
@@ -34,13 +34,13 @@ fn generated_value(alloc: Global, number: u64) -> Result<Value, AllocError>
     with_member(alloc, occupied, "patients", Value::Array(patients))
 }
 
-/// The instance that a number generates, as compact JSON with sorted keys and no line feed at its end: 28 days, 25
+/// The instance that a seed generates, as compact JSON with sorted keys and no line feed at its end: 28 days, 25
 /// rooms, 50 nurses, 3 occupants, 400 patients, 10 surgeons and 5 operating theatres. All else is picked by the words
-/// of one stream that the number seeds. The reader of instance files takes it, whatever the number.
+/// of one stream that begins by the seed. The reader of instance files takes it, whatever the seed.
 #[tactic(auto, using(crate::proofs::WholeNumbers::whole_numbers))]
-pub fn generate(alloc: Global, number: u64) -> Result<Vec<u8>, AllocError>
-    ensures written { IfOk result (λ text. text.items ≡ generated number) }
+pub fn generate(alloc: Global, seed: u64) -> Result<Vec<u8>, AllocError>
+    ensures written { IfOk result (λ text. text.items ≡ generated seed) }
     ensures read { IfOk result (λ text. (I : Draft) × (instance text.items ≡ Ok I)) }
 {
-    generated_value(alloc, number)?.to_vec(alloc)
+    generated_value(alloc, seed)?.to_vec(alloc)
 }

@@ -24,13 +24,13 @@ impl Picks {
     ghost use Rattle.ih_plan.specs.Draws.{state_after};
     ghost use Rattle.ih_gen.specs.Words.{stream_of, pick};
 
-    /// The words that a number seeds.
+    /// The words of the stream of a seed.
     #[tactic(auto, unfolding(crate::specs::Words::stream_of))]
-    pub fn of(number: u64) -> Picks
-        ensures { result ≡ stream_of number }
+    pub fn of(seed: u64) -> Picks
+        ensures { result ≡ stream_of seed }
     {
         Picks {
-            words: Xoshiro256PlusPlus::seed_from_u64(number),
+            words: Xoshiro256PlusPlus::seed_from_u64(seed),
         }
     }
 

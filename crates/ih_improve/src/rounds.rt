@@ -25,11 +25,11 @@ pub trait Walks {
     ghost leaves: { LegState → ℕ → Timetable → Type 0 };
 
     /// Goes on from the round's timetable.
-    fn walk(&mut self, leg: &Leg<'_>, number: usize)
+    fn walk(&mut self, leg: &Leg<'_>, worker_no: usize)
         requires instance { instance self.old ≡ leg.now.instance }
-        requires number { number < leg.now.settings.workers }
+        requires number { worker_no < leg.now.settings.workers }
         ensures same { instance self.new ≡ instance self.old }
-        ensures left { leaves leg.now number (best self.new) };
+        ensures left { leaves leg.now worker_no (best self.new) };
 }
 
 /// Lets each worker go on from the round's timetable, in a call of its own. Where a thread can't be started the caller
@@ -46,6 +46,6 @@ pub(crate) fn walk_all<W: Walks + Send, R: Threads + Sync>(rt: &R, leg: &Leg<'_>
         rt,
         workers,
         MAX_WORKERS as usize,
-        &|number, w| w.walk(leg, number),
+        &|worker_no, w| w.walk(leg, worker_no),
     );
 }

@@ -76,7 +76,7 @@ impl<'a> ImproveWorker<'a> {
         }
     }
 
-    // The attempts from number `done` up to `until`. The heat is that of the first, and a new one each 1024th.
+    // The attempts from number `done` on and before `until`. The heat is that of the first, and a new one each 1024th.
     fn attempt_all(&mut self, leg: &Leg<'_>, done: u64, until: u64)
         requires underway { IsUnderway leg.now self.old.walker }
         requires until { until ≤ leg.now.settings.attempts }
@@ -84,9 +84,9 @@ impl<'a> ImproveWorker<'a> {
     {
         leg.know_leg();
         let mut heat = heat_at(leg.settings(), done.min(until));
-        for number in done..until {
-            if number % ATTEMPTS_AT_A_HEAT == 0 {
-                heat = heat_at(leg.settings(), number);
+        for attempt_no in done..until {
+            if attempt_no % ATTEMPTS_AT_A_HEAT == 0 {
+                heat = heat_at(leg.settings(), attempt_no);
             }
             self.attempt(leg, heat);
         }
@@ -102,9 +102,9 @@ impl<'a> Walks for ImproveWorker<'a> {
 
     ghost leaves = { Leaves };
 
-    fn walk(&mut self, leg: &Leg<'_>, number: usize) {
+    fn walk(&mut self, leg: &Leg<'_>, worker_no: usize) {
         leg.know_leg();
-        self.words = RandomWords::new(leg.settings().seed, leg.round(), number as u32);
+        self.words = RandomWords::new(leg.settings().seed, leg.round(), worker_no as u32);
         self.walker.go_to(leg.from(), leg.bill());
         let done = leg.settings().attempts_through(leg.round());
         let until = leg.settings().attempts_through(leg.round() + 1);

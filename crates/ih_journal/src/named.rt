@@ -82,14 +82,14 @@ fn move_of_four(name: &[u8], first: u32, second: u32, third: u32, fourth: u32) -
 
 /// The move with a name and numbers.
 #[tactic(auto, unfolding(crate::specs::Names::move_named))]
-pub fn move_named(name: &[u8], ns: &[u32]) -> Option<Move>
-    ensures { result ≡ move_named name.now ns.now }
+pub fn move_named(name: &[u8], numbers: &[u32]) -> Option<Move>
+    ensures { result ≡ move_named name.now numbers.now }
 {
-    match ns.len() {
-        1 => move_of_one(name, ns[0]),
-        2 => move_of_two(name, ns[0], ns[1]),
-        3 => move_of_three(name, ns[0], ns[1], ns[2]),
-        4 => move_of_four(name, ns[0], ns[1], ns[2], ns[3]),
+    match numbers.len() {
+        1 => move_of_one(name, numbers[0]),
+        2 => move_of_two(name, numbers[0], numbers[1]),
+        3 => move_of_three(name, numbers[0], numbers[1], numbers[2]),
+        4 => move_of_four(name, numbers[0], numbers[1], numbers[2], numbers[3]),
         _ => None,
     }
 }
@@ -126,12 +126,12 @@ fn cell_of_two(name: &[u8], first: u32, second: u32) -> Option<Cell>
 
 /// The cell with a name and numbers.
 #[tactic(auto, unfolding(crate::specs::Names::cell_named))]
-pub fn cell_named(name: &[u8], ns: &[u32]) -> Option<Cell>
-    ensures { result ≡ cell_named name.now ns.now }
+pub fn cell_named(name: &[u8], numbers: &[u32]) -> Option<Cell>
+    ensures { result ≡ cell_named name.now numbers.now }
 {
-    match ns.len() {
-        1 => cell_of_one(name, ns[0]),
-        2 => cell_of_two(name, ns[0], ns[1]),
+    match numbers.len() {
+        1 => cell_of_one(name, numbers[0]),
+        2 => cell_of_two(name, numbers[0], numbers[1]),
         _ => None,
     }
 }

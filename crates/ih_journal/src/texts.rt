@@ -14,13 +14,13 @@ use std::alloc::AllocError;
 
 // Each number with the separator before it.
 #[inline(always)]
-fn put_marked(buffer: &mut [u8], at: usize, separator: u8, ns: &[u32]) -> usize
-    requires { at + 21 * length ns.now ≤ length buffer.old }
-    ensures text { take result buffer.new ≡ take at buffer.old ++ marked separator (map decimal ns.now) }
-    ensures within { result ≤ at + 21 * length ns.now }
+fn put_marked(buffer: &mut [u8], at: usize, separator: u8, numbers: &[u32]) -> usize
+    requires { at + 21 * length numbers.now ≤ length buffer.old }
+    ensures text { take result buffer.new ≡ take at buffer.old ++ marked separator (map decimal numbers.now) }
+    ensures within { result ≤ at + 21 * length numbers.now }
 {
     let mut end = at;
-    for n in ns {
+    for n in numbers {
         end = put_byte(buffer, end, separator);
         end = put_number(buffer, end, u64::from(*n));
     }
@@ -40,13 +40,13 @@ fn put_named(buffer: &mut [u8], at: usize, name: &str, first: u32, rest: &[u32])
 }
 
 #[inline(always)]
-fn put_dotted(buffer: &mut [u8], at: usize, name: &str, ns: &[u32]) -> usize
-    requires { at + length name.now + 21 * length ns.now ≤ length buffer.old }
-    ensures text { take result buffer.new ≡ take at buffer.old ++ dotted name.now ns.now }
-    ensures within { result ≤ at + length name.now + 21 * length ns.now }
+fn put_dotted(buffer: &mut [u8], at: usize, name: &str, numbers: &[u32]) -> usize
+    requires { at + length name.now + 21 * length numbers.now ≤ length buffer.old }
+    ensures text { take result buffer.new ≡ take at buffer.old ++ dotted name.now numbers.now }
+    ensures within { result ≤ at + length name.now + 21 * length numbers.now }
 {
     let end = put_text(buffer, at, name);
-    put_marked(buffer, end, b'.', ns)
+    put_marked(buffer, end, b'.', numbers)
 }
 
 /// Writes a move.
@@ -91,13 +91,13 @@ fn put_cell(buffer: &mut [u8], at: usize, cell: &Cell) -> usize
 
 // Each number with a comma before it.
 #[inline(always)]
-fn put_each(buffer: &mut [u8], at: usize, xs: &[i64]) -> usize
-    requires { at + 22 * length xs.now ≤ length buffer.old }
-    ensures text { take result buffer.new ≡ take at buffer.old ++ marked 44 (map signed_decimal xs.now) }
-    ensures within { result ≤ at + 22 * length xs.now }
+fn put_each(buffer: &mut [u8], at: usize, numbers: &[i64]) -> usize
+    requires { at + 22 * length numbers.now ≤ length buffer.old }
+    ensures text { take result buffer.new ≡ take at buffer.old ++ marked 44 (map signed_decimal numbers.now) }
+    ensures within { result ≤ at + 22 * length numbers.now }
 {
     let mut end = at;
-    for x in xs {
+    for x in numbers {
         end = put_byte(buffer, end, b',');
         end = put_signed(buffer, end, *x);
     }
@@ -105,38 +105,38 @@ fn put_each(buffer: &mut [u8], at: usize, xs: &[i64]) -> usize
 }
 
 #[inline(always)]
-fn are_zero(xs: &[i64]) -> bool
-    requires { length xs.now ≡ 4 }
-    ensures { IsTrue result → xs.now ≡ pos 0 ∷ pos 0 ∷ pos 0 ∷ pos 0 ∷ [] }
+fn are_zero(numbers: &[i64]) -> bool
+    requires { length numbers.now ≡ 4 }
+    ensures { IsTrue result → numbers.now ≡ pos 0 ∷ pos 0 ∷ pos 0 ∷ pos 0 ∷ [] }
 {
-    let (a, b, c, d) = (xs[0], xs[1], xs[2], xs[3]);
+    let (a, b, c, d) = (numbers[0], numbers[1], numbers[2], numbers[3]);
     a == 0 && b == 0 && c == 0 && d == 0
 }
 
 // Four numbers, each with a comma before it. Most of those of a price are 0.
 #[inline(always)]
-fn put_four(buffer: &mut [u8], at: usize, xs: &[i64]) -> usize
-    requires four { length xs.now ≡ 4 }
+fn put_four(buffer: &mut [u8], at: usize, numbers: &[i64]) -> usize
+    requires four { length numbers.now ≡ 4 }
     requires room { at + 88 ≤ length buffer.old }
-    ensures text { take result buffer.new ≡ take at buffer.old ++ marked 44 (map signed_decimal xs.now) }
+    ensures text { take result buffer.new ≡ take at buffer.old ++ marked 44 (map signed_decimal numbers.now) }
     ensures within { result ≤ at + 88 }
 {
-    if are_zero(xs) {
+    if are_zero(numbers) {
         put_text(buffer, at, ",0,0,0,0")
     } else {
-        put_each(buffer, at, xs)
+        put_each(buffer, at, numbers)
     }
 }
 
 // Eight numbers, each with a comma before it.
-fn put_numbers(buffer: &mut [u8], at: usize, xs: &[i64]) -> usize
-    requires eight { length xs.now ≡ 8 }
+fn put_numbers(buffer: &mut [u8], at: usize, numbers: &[i64]) -> usize
+    requires eight { length numbers.now ≡ 8 }
     requires room { at + 176 ≤ length buffer.old }
-    ensures text { take result buffer.new ≡ take at buffer.old ++ marked 44 (map signed_decimal xs.now) }
+    ensures text { take result buffer.new ≡ take at buffer.old ++ marked 44 (map signed_decimal numbers.now) }
     ensures within { result ≤ at + 176 }
 {
-    let end = put_four(buffer, at, &xs[..4]);
-    put_four(buffer, end, &xs[4..])
+    let end = put_four(buffer, at, &numbers[..4]);
+    put_four(buffer, end, &numbers[4..])
 }
 
 /// Writes a price.

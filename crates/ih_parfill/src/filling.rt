@@ -24,7 +24,7 @@ fn make_dealt<R: Threads + Wait + Sync, G: Gate>(
     inst: &Instance,
     scorer: &mut Scorer<'_>,
     choice: Choice,
-    number: u32,
+    choice_no: u32,
     found: &mut [Option<Found>],
     gate: &G,
 )
@@ -38,7 +38,7 @@ fn make_dealt<R: Threads + Wait + Sync, G: Gate>(
     ensures len { length found.new ≡ length found.old }
 {
     if is_open(scorer, choice) {
-        deal(rt, inst, scorer, choice, number, found, gate);
+        deal(rt, inst, scorer, choice, choice_no, found, gate);
         if let Some(best) = lowest(found) {
             scorer.put(&best.candidate.write);
         }

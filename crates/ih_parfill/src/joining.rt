@@ -26,7 +26,7 @@ fn look_at_share<R: Wait, G: Gate>(
     inst: &Instance,
     scorer: &Scorer<'_>,
     choice: Choice,
-    number: u32,
+    choice_no: u32,
     workers: u32,
     worker: usize,
     found: &mut Option<Found>,
@@ -39,12 +39,12 @@ fn look_at_share<R: Wait, G: Gate>(
         (IsShare workers worker) found.new }
 {
     let worker = worker as u32;
-    gate.before(rt, worker, number);
+    gate.before(rt, worker, choice_no);
     *found = match choice {
         Choice::Stay(p) => least_of_share(inst, scorer, p, inst.patient(p), workers, worker),
         Choice::Nurse(r, k) => least_nurse_of_share(inst, scorer, r, k, workers, worker),
     };
-    gate.after(rt, worker, number);
+    gate.after(rt, worker, choice_no);
 }
 
 /// Lets each worker look at its share of a choice's candidates.
@@ -53,7 +53,7 @@ pub(crate) fn deal<R: Threads + Wait + Sync, G: Gate>(
     inst: &Instance,
     scorer: &Scorer<'_>,
     choice: Choice,
-    number: u32,
+    choice_no: u32,
     found: &mut [Option<Found>],
     gate: &G,
 )
@@ -73,7 +73,7 @@ pub(crate) fn deal<R: Threads + Wait + Sync, G: Gate>(
                 × (worker < workers) }
         {
             look_at_share(
-                rt, inst, scorer, choice, number, workers, worker, found, gate,
+                rt, inst, scorer, choice, choice_no, workers, worker, found, gate,
             )
         },
     );

@@ -95,13 +95,13 @@ impl Attempt {
     }
 
     /// The move at a place, where all are moves of the instance.
-    pub fn at(&self, _inst: &Instance, place: usize) -> Move
-        requires place { place < length self.now }
+    pub fn at(&self, _inst: &Instance, index: usize) -> Move
+        requires place { index < length self.now }
         requires moves { AreMoves _inst.now.draft self.now }
         ensures { IsMoveOf _inst.now.draft result }
     {
         let moves = self.as_slice();
-        moves[place]
+        moves[index]
     }
 
     /// Whether one of the moves is a `Place`, `Withdraw` or `SetRoom` of this person. The other kinds aren't looked at.

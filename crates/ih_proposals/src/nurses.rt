@@ -9,13 +9,13 @@ use ih_tables::{Instance, NurseNo, Shift};
 
 /// The nurse at a place in the list of those who work a shift.
 #[inline(always)]
-pub fn working_at(inst: &Instance, shift: Shift, place: usize) -> NurseNo
+pub fn working_at(inst: &Instance, shift: Shift, index: usize) -> NurseNo
     requires shift { shift.0 < shift_count inst.now.draft }
-    requires place { place < length (working inst.now.draft shift.0) }
+    requires place { index < length (working inst.now.draft shift.0) }
     ensures { result.0 < nurse_count inst.now.draft }
 {
     let working = inst.working(shift);
-    working[place]
+    working[index]
 }
 
 /// How many nurses work a shift.

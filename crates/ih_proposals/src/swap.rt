@@ -26,11 +26,11 @@ fn is_allowed(inst: &Instance, patient_no: PatientNo, at: Placement) -> bool
 
 // Whether a patient who isn't admitted may take the place of another for good: the other is optional, and stays as
 // long or longer.
-fn may_replace(inst: &Instance, patient: PatientNo, second: PatientNo) -> bool
+fn may_replace(inst: &Instance, patient: PatientNo, other_no: PatientNo) -> bool
     requires first { patient.0 < patient_count inst.now.draft }
-    requires second { second.0 < patient_count inst.now.draft }
+    requires second { other_no.0 < patient_count inst.now.draft }
 {
-    let other = inst.patient(second);
+    let other = inst.patient(other_no);
     !other.mandatory && inst.patient(patient).length_of_stay <= other.length_of_stay
 }
 

@@ -130,18 +130,18 @@ impl Crowd {
 }
 
 /// The summary of the persons in a room, by a day's lists.
-pub fn crowd_of(profiles: &Profiles, day: &CompactLinks, room: u32) -> Crowd
+pub fn crowd_of(profiles: &Profiles, lists: &CompactLinks, room: u32) -> Crowd
     requires profiles { AreInRange (length profiles.now.genders.items) profiles.now }
-    requires room { room < length day.now.lists }
-    requires persons { day.now.nodes ≡ length profiles.now.genders.items }
-    requires few { length (list_of day.now room) ≤ most_persons }
-    ensures { IsCrowd profiles.now (list_of day.now room) result }
+    requires room { room < length lists.now.lists }
+    requires persons { lists.now.nodes ≡ length profiles.now.genders.items }
+    requires few { length (list_of lists.now room) ≤ most_persons }
+    ensures { IsCrowd profiles.now (list_of lists.now room) result }
 {
     let mut crowd = NOBODY;
-    let mut at = day.first(room);
+    let mut at = lists.first(room);
     while let Some(x) = at {
         crowd = crowd.with(profiles.of(x));
-        at = day.next(x);
+        at = lists.next(x);
     }
     crowd
 }

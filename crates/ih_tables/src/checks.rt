@@ -6,10 +6,10 @@ ghost use Rattle.ih_tables.specs.Valid.{IsVector, Between, IsName, IsListed};
 use crate::lookups::HasId;
 
 /// Whether a number is from `low` to `high`.
-pub fn between(low: usize, high: usize, length: usize) -> bool
-    ensures { IsTrue result ↔ Between low high length }
+pub fn between(low: usize, high: usize, number: usize) -> bool
+    ensures { IsTrue result ↔ Between low high number }
 {
-    low <= length && length <= high
+    low <= number && number <= high
 }
 
 /// Whether a text has 1 to 100 bytes.
@@ -20,17 +20,17 @@ pub fn is_name(text: &str) -> bool
 }
 
 /// Whether each number is at most `high`.
-pub fn are_at_most(high: u32, xs: &[u32]) -> bool
-    ensures { IsTrue result ↔ All (λ x. x ≤ high) xs.now }
+pub fn are_at_most(high: u32, numbers: &[u32]) -> bool
+    ensures { IsTrue result ↔ All (λ x. x ≤ high) numbers.now }
 {
-    xs.iter().all(|x| *x <= high)
+    numbers.iter().all(|x| *x <= high)
 }
 
 /// Whether there are `length` numbers, each at most `high`.
-pub fn is_vector(length: usize, high: u32, xs: &[u32]) -> bool
-    ensures { IsTrue result ↔ IsVector length high xs.now }
+pub fn is_vector(length: usize, high: u32, numbers: &[u32]) -> bool
+    ensures { IsTrue result ↔ IsVector length high numbers.now }
 {
-    xs.len() == length && are_at_most(high, xs)
+    numbers.len() == length && are_at_most(high, numbers)
 }
 
 /// Whether there are from `low` to `high` items, whose ids are names, no two the same.

@@ -32,13 +32,13 @@ pub fn max_load(draft: &Draft, nurse: usize, shift: usize) -> Option<u32>
 }
 
 // The maximum load at a place of the table.
-fn load_at(draft: &Draft, place: usize) -> Option<u32>
+fn load_at(draft: &Draft, index: usize) -> Option<u32>
     requires valid { IsValid draft.now }
-    requires inside { place < nurse_count draft.now * shift_count draft.now }
-    ensures { result ≡ max_load draft.now (place / shift_count draft.now) (place % shift_count draft.now) }
+    requires inside { index < nurse_count draft.now * shift_count draft.now }
+    ensures { result ≡ max_load draft.now (index / shift_count draft.now) (index % shift_count draft.now) }
 {
     let shifts = 3 * draft.days as usize;
-    max_load(draft, place / shifts, place % shifts)
+    max_load(draft, index / shifts, index % shifts)
 }
 
 /// Each nurse's maximum load in each shift: those of nurse 0 first, rising by shift.
@@ -48,8 +48,8 @@ pub fn load_table(alloc: Global, draft: &Draft) -> Result<List<Option<u32>>, All
 {
     let shifts = 3 * draft.days as usize;
     let mut loads = Vec::new(alloc);
-    for place in 0..draft.nurses.as_slice().len() * shifts {
-        loads.push(load_at(draft, place))?;
+    for index in 0..draft.nurses.as_slice().len() * shifts {
+        loads.push(load_at(draft, index))?;
     }
     Ok(List::new(loads))
 }

@@ -41,10 +41,10 @@ fn is_worked(inst: &Draft, worked: &WorkedShift) -> bool
     worked.day.0 < inst.days && worked.shift < 3 && worked.max_load <= 100_000
 }
 
-fn are_worked(inst: &Draft, ws: &[WorkedShift]) -> bool
-    ensures { IsTrue result ↔ All (IsWorked inst.now) ws.now }
+fn are_worked(inst: &Draft, worked: &[WorkedShift]) -> bool
+    ensures { IsTrue result ↔ All (IsWorked inst.now) worked.now }
 {
-    ws.iter().all(|w| is_worked(inst, w))
+    worked.iter().all(|w| is_worked(inst, w))
 }
 
 fn shift_of(worked: &WorkedShift) -> u64
@@ -53,17 +53,17 @@ fn shift_of(worked: &WorkedShift) -> u64
     3 * worked.day.0 as u64 + worked.shift as u64
 }
 
-fn works_shift(ws: &[WorkedShift], shift: u64) -> bool
-    ensures { IsTrue result ↔ Any (λ w. shift_of w ≡ shift) ws.now }
+fn works_shift(worked: &[WorkedShift], shift: u64) -> bool
+    ensures { IsTrue result ↔ Any (λ w. shift_of w ≡ shift) worked.now }
 {
-    ws.iter().any(|w| shift_of(w) == shift)
+    worked.iter().any(|w| shift_of(w) == shift)
 }
 
-fn are_worked_once(ws: &[WorkedShift]) -> bool
-    ensures { IsTrue result ↔ AllPairs (λ a b. shift_of a ≢ shift_of b) ws.now }
+fn are_worked_once(worked: &[WorkedShift]) -> bool
+    ensures { IsTrue result ↔ AllPairs (λ a b. shift_of a ≢ shift_of b) worked.now }
 {
-    for (i, w) in ws.iter().enumerate() {
-        if works_shift(&ws[..i], shift_of(w)) {
+    for (i, w) in worked.iter().enumerate() {
+        if works_shift(&worked[..i], shift_of(w)) {
             return false;
         }
     }
@@ -77,29 +77,29 @@ fn is_nurse(inst: &Draft, nurse: &Nurse) -> bool
     nurse.skill_level <= 1000 && are_worked(inst, shifts) && are_worked_once(shifts)
 }
 
-fn are_nurses(inst: &Draft, ns: &[Nurse]) -> bool
-    ensures { IsTrue result ↔ All (IsNurse inst.now) ns.now }
+fn are_nurses(inst: &Draft, nurses: &[Nurse]) -> bool
+    ensures { IsTrue result ↔ All (IsNurse inst.now) nurses.now }
 {
-    ns.iter().all(|n| is_nurse(inst, n))
+    nurses.iter().all(|n| is_nurse(inst, n))
 }
 
 // What must hold of the gender, the age group and the length of stay of any person.
-fn is_person(inst: &Draft, gender: &str, age_group: u32, stay: u32) -> bool
+fn is_person(inst: &Draft, gender: &str, age_group: u32, length_of_stay: u32) -> bool
     ensures { IsTrue result ↔ (IsName gender.now
         × (age_group < length inst.now.age_groups)
-        × Between 1 100 stay) }
+        × Between 1 100 length_of_stay) }
 {
     is_name(gender)
         && (age_group as usize) < inst.age_groups.as_slice().len()
-        && between(1, 100, stay as usize)
+        && between(1, 100, length_of_stay as usize)
 }
 
 // Whether these are what a person asks of a nurse, shift by shift of a stay: the workload, and the skill required.
-fn is_asked(inst: &Draft, stay: u32, workload: &[u32], skill: &[u32]) -> bool
-    ensures { IsTrue result ↔ (IsVector (vector_len inst.now stay) 100000 workload.now
-        × IsVector (vector_len inst.now stay) 1000 skill.now) }
+fn is_asked(inst: &Draft, length_of_stay: u32, workload: &[u32], skill: &[u32]) -> bool
+    ensures { IsTrue result ↔ (IsVector (vector_len inst.now length_of_stay) 100000 workload.now
+        × IsVector (vector_len inst.now length_of_stay) 1000 skill.now) }
 {
-    let entries = 3 * stay.min(inst.days) as usize;
+    let entries = 3 * length_of_stay.min(inst.days) as usize;
     is_vector(entries, 100_000, workload) && is_vector(entries, 1000, skill)
 }
 
@@ -118,10 +118,10 @@ fn is_occupant(inst: &Draft, occupant: &Occupant) -> bool
         && (occupant.room_id.0 as usize) < inst.rooms.as_slice().len()
 }
 
-fn are_occupants(inst: &Draft, os: &[Occupant]) -> bool
-    ensures { IsTrue result ↔ All (IsOccupant inst.now) os.now }
+fn are_occupants(inst: &Draft, occupants: &[Occupant]) -> bool
+    ensures { IsTrue result ↔ All (IsOccupant inst.now) occupants.now }
 {
-    os.iter().all(|o| is_occupant(inst, o))
+    occupants.iter().all(|o| is_occupant(inst, o))
 }
 
 fn is_due_right(mandatory: bool, due: Option<u32>) -> bool
@@ -133,11 +133,11 @@ fn is_due_right(mandatory: bool, due: Option<u32>) -> bool
     }
 }
 
-fn are_rooms(inst: &Draft, rs: &[RoomNo]) -> bool
-    ensures { IsTrue result ↔ All (λ r. r.0 < room_count inst.now) rs.now }
+fn are_rooms(inst: &Draft, rooms: &[RoomNo]) -> bool
+    ensures { IsTrue result ↔ All (λ r. r.0 < room_count inst.now) rooms.now }
 {
-    let rooms = inst.rooms.as_slice().len();
-    rs.iter().all(|r| (r.0 as usize) < rooms)
+    let count = inst.rooms.as_slice().len();
+    rooms.iter().all(|r| (r.0 as usize) < count)
 }
 
 fn is_patient(inst: &Draft, patient: &Patient) -> bool
@@ -160,10 +160,10 @@ fn is_patient(inst: &Draft, patient: &Patient) -> bool
         )
 }
 
-fn are_patients(inst: &Draft, ps: &[Patient]) -> bool
-    ensures { IsTrue result ↔ All (IsPatient inst.now) ps.now }
+fn are_patients(inst: &Draft, patients: &[Patient]) -> bool
+    ensures { IsTrue result ↔ All (IsPatient inst.now) patients.now }
 {
-    ps.iter().all(|p| is_patient(inst, p))
+    patients.iter().all(|p| is_patient(inst, p))
 }
 
 // Days, skill levels, shift types, age groups and weights.

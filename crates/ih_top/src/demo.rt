@@ -27,11 +27,11 @@ use std::thread::Threads;
 // The weight of a broken hard rule in a score.
 const HARD: u32 = 100_000;
 
-fn demo_options(number: u64) -> Options
-    ensures { result ≡ demo_options number }
+fn demo_options(seed: u64) -> Options
+    ensures { result ≡ demo_options seed }
 {
     Options {
-        seed: number,
+        seed,
         workers: 1,
         moves: 2_000,
         heat: 50,
@@ -67,12 +67,12 @@ fn count_stale(entries: &[Entry]) -> usize
         .count()
 }
 
-fn demo_line(alloc: Global, number: u64) -> Result<String, AllocError>
-    ensures { IfOk result (λ s. string_bytes s ≡ demo_line number) }
+fn demo_line(alloc: Global, seed: u64) -> Result<String, AllocError>
+    ensures { IfOk result (λ s. string_bytes s ≡ demo_line seed) }
 {
     let mut buffer = Buffer::new();
-    let number = buffer.format(number);
-    format!(in alloc; "demo {number}\n")
+    let seed = buffer.format(seed);
+    format!(in alloc; "demo {seed}\n")
 }
 
 // How many moves were accepted, declined and stale.
@@ -89,10 +89,10 @@ fn counts_line(alloc: Global, entries: &[Entry]) -> Result<String, AllocError>
 }
 
 // What is said of the search before its best.
-fn demo_head(alloc: Global, number: u64, entries: &[Entry]) -> Result<Vec<u8>, AllocError>
-    ensures { IfOk result (λ text. text.items ≡ demo_line number ++ counts_line entries.now) }
+fn demo_head(alloc: Global, seed: u64, entries: &[Entry]) -> Result<Vec<u8>, AllocError>
+    ensures { IfOk result (λ text. text.items ≡ demo_line seed ++ counts_line entries.now) }
 {
-    let mut text = demo_line(alloc, number)?.into_bytes();
+    let mut text = demo_line(alloc, seed)?.into_bytes();
     let line = counts_line(alloc, entries)?;
     text.extend_from_slice(line.as_bytes())?;
     Ok(text)
@@ -101,23 +101,23 @@ fn demo_head(alloc: Global, number: u64, entries: &[Entry]) -> Result<Vec<u8>, A
 // What is said of the search and its best.
 fn demo_said(
     alloc: Global,
-    number: u64,
+    seed: u64,
     entries: &[Entry],
     best: &BestOutput,
 ) -> Result<Vec<u8>, AllocError>
     ensures { IfOk result
-        (λ text. text.items ≡ (demo_line number ++ counts_line entries.now) ++ best.now.text.items) }
+        (λ text. text.items ≡ (demo_line seed ++ counts_line entries.now) ++ best.now.text.items) }
 {
-    let mut text = demo_head(alloc, number, entries)?;
+    let mut text = demo_head(alloc, seed, entries)?;
     text.extend_from_slice(best.text.as_slice())?;
     Ok(text)
 }
 
-// The instance that the number generates. The reader never refuses what is generated.
-fn demo_instance(alloc: Global, number: u64) -> Result<Box<Instance>, AllocError>
-    ensures { IfOk result (λ i. instance (generated number) ≡ Ok i.value.draft) }
+// The instance that the seed generates. The reader never refuses what is generated.
+fn demo_instance(alloc: Global, seed: u64) -> Result<Box<Instance>, AllocError>
+    ensures { IfOk result (λ i. instance (generated seed) ≡ Ok i.value.draft) }
 {
-    let text = generate(alloc, number)?;
+    let text = generate(alloc, seed)?;
     match read_instance(alloc, text.as_slice()) {
         Ok(inst) => Ok(Box::new(alloc, inst)?),
         Err(InstanceError::Refused(_)) => unreachable!(),
@@ -129,15 +129,15 @@ fn demo_instance(alloc: Global, number: u64) -> Result<Box<Instance>, AllocError
 fn search_from_fill<R: Threads + Wait + Sync, G: Gate>(
     rt: &R,
     alloc: Global,
-    number: u64,
+    seed: u64,
     inst: &Instance,
     gate: &G,
 ) -> Result<Option<Vec<u8>>, AllocError>
-    requires { instance (generated number) ≡ Ok inst.now.draft }
-    ensures { IfOk result (λ text. IsShown number (option_map (λ t. t.items) text)) }
+    requires { instance (generated seed) ≡ Ok inst.now.draft }
+    ensures { IfOk result (λ text. IsShown seed (option_map (λ t. t.items) text)) }
 {
     let empty = Plan::empty(alloc, inst)?;
-    let options = demo_options(number);
+    let options = demo_options(seed);
     let start = par_fill(rt, alloc, inst, HARD, &empty, options.workers, &OpenGate)?;
     let given = Given {
         inst,
@@ -149,25 +149,20 @@ fn search_from_fill<R: Threads + Wait + Sync, G: Gate>(
     let entries = book.entries();
     match best_of(alloc, &given, entries, book.best())? {
         None => Ok(None),
-        Some(best) => Ok(Some(demo_said(alloc, number, entries, &best)?)),
+        Some(best) => Ok(Some(demo_said(alloc, seed, entries, &best)?)),
     }
 }
 
-/// Searches on the instance of a number, and says what it found.
-pub fn demo<R: Threads + Wait + Sync, G: Gate>(
-    rt: &R,
-    alloc: Global,
-    number: u64,
-    gate: &G,
-) -> Answer
-    ensures ends { Answers (DemoEnds number) result }
+/// Searches on the instance of a seed, and says what it found.
+pub fn demo<R: Threads + Wait + Sync, G: Gate>(rt: &R, alloc: Global, seed: u64, gate: &G) -> Answer
+    ensures ends { Answers (DemoEnds seed) result }
     // it reads and writes no file
     ensures cause { (reads writes : ℕ) → HasFileCause reads reads writes writes result.status }
 {
-    let Ok(inst) = demo_instance(alloc, number) else {
+    let Ok(inst) = demo_instance(alloc, seed) else {
         return out_of_memory(alloc);
     };
-    match search_from_fill(rt, alloc, number, &*inst, gate) {
+    match search_from_fill(rt, alloc, seed, &*inst, gate) {
         Ok(Some(text)) => Answer {
             status: Status::Done,
             text,

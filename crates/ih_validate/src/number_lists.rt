@@ -24,7 +24,7 @@ impl NumberList {
     ghost use Rattle.std.specs.List.{filter};
     ghost use Rattle.ih_plan.specs.Sums.{which_below};
 
-    /// Nobody yet.
+    /// No numbers yet.
     pub fn new() -> NumberList
         ensures { result ≡ [] }
     {
@@ -50,7 +50,7 @@ impl NumberList {
         &self.numbers[..self.len]
     }
 
-    /// Leaves nobody.
+    /// Takes all numbers out.
     pub fn clear(&mut self)
         ensures { self.new ≡ [] }
     {
@@ -58,11 +58,11 @@ impl NumberList {
     }
 
     /// Adds a number at the end.
-    pub fn push(&mut self, person: u32)
+    pub fn push(&mut self, number: u32)
         requires { length self.old < 2560 }
-        ensures { self.new ≡ self.old ++ person ∷ [] }
+        ensures { self.new ≡ self.old ++ number ∷ [] }
     {
-        self.numbers[self.len] = person;
+        self.numbers[self.len] = number;
         self.len += 1;
     }
 

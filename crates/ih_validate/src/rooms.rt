@@ -105,12 +105,12 @@ pub fn room_costs(inst: &Instance, plan: &Plan) -> RoomCosts
     for r in 0..inst.rooms() {
         let r = RoomNo(r);
         list_residents(inst, plan, r, &mut residents);
-        let room = costs_of(inst, plan, r, residents.as_slice(), &mut here);
-        costs.gender_mixes += room.gender_mixes;
-        costs.over_capacity += room.over_capacity;
-        costs.uncovered += room.uncovered;
-        costs.mixed_ages += room.mixed_ages;
-        costs.missing_skill += room.missing_skill;
+        let of_room = costs_of(inst, plan, r, residents.as_slice(), &mut here);
+        costs.gender_mixes += of_room.gender_mixes;
+        costs.over_capacity += of_room.over_capacity;
+        costs.uncovered += of_room.uncovered;
+        costs.mixed_ages += of_room.mixed_ages;
+        costs.missing_skill += of_room.missing_skill;
     }
     costs
 }

@@ -9,7 +9,7 @@ use Rattle.ih_gen.proofs.instances.generate.Goals as goal
 
 pub returns-clause-read : goal.returns-clause-read
 returns-clause-read c =
-    let number = c.args.number in
-    let shallow : depth (generated_data number) ≤ max_depth = (let five = generated-depth number in omega (arith, five)) in
-    if_ok_both c.to_vec.result _ _ _ (λ v utf8 same. (generated_draft number, reads-back number v.items utf8 (same shallow))) c.to_vec.ensures.utf8
+    let seed = c.args.seed in
+    let shallow : depth (generated_data seed) ≤ max_depth = (let five = generated-depth seed in omega (arith, five)) in
+    if_ok_both c.to_vec.result _ _ _ (λ v utf8 same. (generated_draft seed, reads-back seed v.items utf8 (same shallow))) c.to_vec.ensures.utf8
     (rw c.in_ok-generated_value.ensures at c.to_vec.ensures.reads_back)

@@ -6,5 +6,5 @@ use Rattle.ih_journal.proofs.texts.put_dotted.Goals as goal
 pub returns-clause-text : goal.returns-clause-text
 returns-clause-text c =
     c.put_marked.ensures.text
-    ∙ ap (λ (text : List ℕ). text ++ marked 46 (map decimal c.args.ns.now)) c.put_text-end.ensures.text
-    ∙ dotted-pieces (take c.args.at c.args.buffer.now) c.args.name.now c.args.ns.now
+    ∙ ap (λ (text : List ℕ). text ++ marked 46 (map decimal c.args.numbers.now)) c.put_text-end.ensures.text
+    ∙ dotted-pieces (take c.args.at c.args.buffer.now) c.args.name.now c.args.numbers.now

@@ -6,5 +6,5 @@ use Rattle.ih_journal.proofs.texts.put_each.Given as goal
 abbrev pub invariant-loop-x : goal.invariant-loop-x
 invariant-loop-x l = record {
   within : l.end ≤ l.at + 22 * l.x-index;
-  text : take l.end l.buffer ≡ take l.at l.fn.buffer ++ marked 44 (map signed_decimal (take l.x-index l.xs));
+  text : take l.end l.buffer ≡ take l.at l.fn.buffer ++ marked 44 (map signed_decimal (take l.x-index l.numbers));
 }

@@ -8,7 +8,7 @@ use Rattle.ih_journal.proofs.texts.put_numbers.Goals as goal
 pub returns-clause-text : goal.returns-clause-text
 returns-clause-text c =
     let before = take c.args.at c.args.buffer.now in
-    let xs = c.args.xs.now in
+    let xs = c.args.numbers.now in
     let many = length-drop 4 xs in
     let rest : take (length xs - 4) (drop 4 xs) ≡ drop 4 xs = take_all (length xs - 4) (drop 4 xs) (omega arith) in
     let behind = ap (λ last. before ++ marked 44 (map signed_decimal (take 4 xs)) ++ marked 44 (map signed_decimal last)) rest in

@@ -3,5 +3,5 @@ use Rattle.ih_proposals.proofs.nurses.working_at.Goals as goal
 
 pub returns : goal.returns
 returns c =
-    working-below c.args.inst.now.draft c.args.shift.0 c.args.place c.working-working.result.now _ c.working-working.ensures
+    working-below c.args.inst.now.draft c.args.shift.0 c.args.index c.working-working.result.now _ c.working-working.ensures
     (rw c.working-working.ensures c.requires.place)

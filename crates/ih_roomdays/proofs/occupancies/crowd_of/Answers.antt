@@ -6,7 +6,7 @@ use Rattle.ih_roomdays.proofs.occupancies.crowd_of.Goals as goal
 
 pub loop-at-init : goal.loop-at-init
 loop-at-init c =
-    rw c.first-at.ensures.first (with-begins c.args.day.now.nodes (list_of c.args.day.now c.args.room) c.first-at.ensures.nodes (crowd-none c.args.profiles.now))
+    rw c.first-at.ensures.first (with-begins c.args.lists.now.nodes (list_of c.args.lists.now c.args.room) c.first-at.ensures.nodes (crowd-none c.args.profiles.now))
 
 pub of-requires-clause-person : goal.of-requires-clause-person
 of-requires-clause-person c = rw (← c.requires.persons) (walk-below c.loop-at.invariant.walk c.in-Some.is)

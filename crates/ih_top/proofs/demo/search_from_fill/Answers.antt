@@ -25,7 +25,7 @@ returns-in-None g c =
     let b : Base = base_with c.args.inst.now.draft c.in_ok-start.start c.demo_options-options.result 0 in
     let es = c.entries-entries.result.now in
     let demo =
-    searched-demo c.args.number c.args.inst.now.draft c.in_ok-start.start c.demo_options-options.result _ es c.in_ok-book.book.entries c.requires
+    searched-demo c.args.seed c.args.inst.now.draft c.in_ok-start.start c.demo_options-options.result _ es c.in_ok-book.book.entries c.requires
     (c.in_ok-start.ensures.filled ∙ ap (fill c.args.inst.now.draft 100000) c.in_ok-empty.ensures) c.demo_options-options.ensures
     c.entries-entries.ensures.entries c.in_ok-book.ensures.full c.in_ok-book.ensures.base c.entries-entries.ensures.exact in
     record { base = b; history = es; demo = demo; said_is = subst (HasBestOutput b (tries es)) c.in-None.is c.in_ok-best_of.ensures }
@@ -36,7 +36,7 @@ returns g c =
     let es = c.entries-entries.result.now in
     let best : HasBestOutput b (tries es) (Some c.in-Some.best) = subst (HasBestOutput b (tries es)) c.in-Some.is c.in_ok-best_of.ensures in
     let demo =
-    searched-demo c.args.number c.args.inst.now.draft c.in_ok-start.start c.demo_options-options.result _ es c.in_ok-book.book.entries c.requires
+    searched-demo c.args.seed c.args.inst.now.draft c.in_ok-start.start c.demo_options-options.result _ es c.in_ok-book.book.entries c.requires
     (c.in_ok-start.ensures.filled ∙ ap (fill c.args.inst.now.draft 100000) c.in_ok-empty.ensures) c.demo_options-options.ensures
     c.entries-entries.ensures.entries c.in_ok-book.ensures.full c.in_ok-book.ensures.base c.entries-entries.ensures.exact in
     record {
@@ -46,7 +46,7 @@ returns g c =
       said_is = (
         best.place,
         best.best,
-        demo-said c.args.number b es best.place c.in_ok-demo_said-in-Some.field-0.items c.in-Some.best.text.items best.text
+        demo-said c.args.seed b es best.place c.in_ok-demo_said-in-Some.field-0.items c.in-Some.best.text.items best.text
             c.in_ok-demo_said-in-Some.ensures,
       );
     }

@@ -4,4 +4,4 @@ use Rattle.ih_tables.specs.Marks.{is_marked}
 use Rattle.ih_validate.proofs.marks.count_marked.Given as goal
 
 abbrev pub invariant-loop-i : goal.invariant-loop-i
-invariant-loop-i l = (l.count ≡ count_below l.i (is_marked l.marks)) × (l.count ≤ l.i)
+invariant-loop-i l = (l.marked ≡ count_below l.i (is_marked l.marks)) × (l.marked ≤ l.i)

@@ -5,5 +5,5 @@ use Rattle.ih_proposals.proofs.attempts.Attempt.at.Goals as goal
 
 pub returns : goal.returns
 returns c =
-    move-at c.args._inst.now.draft c.as_slice-moves.result.now c.args.place _
+    move-at c.args._inst.now.draft c.as_slice-moves.result.now c.args.index _
     (subst (AreMoves c.args._inst.now.draft) (sym c.as_slice-moves.ensures.moves) c.requires.moves) (rw c.as_slice-moves.ensures.moves c.requires.place)
