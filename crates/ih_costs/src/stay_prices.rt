@@ -38,7 +38,7 @@ struct ShiftsMore {
 // A placement of a patient that is tried, whose stay is `old` so far.
 #[derive(Clone, Copy)]
 struct Trial {
-    p: PatientNo,
+    patient: PatientNo,
     old: Option<Placement>,
     at: Placement,
 }
@@ -46,16 +46,16 @@ struct Trial {
 impl CellLedgers {
     // What the room has more over the days of a placement with the patient there than without.
     fn more_over_days(&self, inst: &Instance, trial: &Trial) -> DaysMore
-        requires { IsTrial inst.now.draft self.now trial.now.p trial.now.old trial.now.at }
-        ensures { result ≡ days_more inst.now.draft (timetable_of self.now) trial.now.p trial.now.at }
+        requires { IsTrial inst.now.draft self.now trial.now.patient trial.now.old trial.now.at }
+        ensures { result ≡ days_more inst.now.draft (timetable_of self.now) trial.now.patient trial.now.at }
     {
-        let Trial { p, old, at } = *trial;
-        let end = end_of(inst, p, at);
+        let Trial { patient, old, at } = *trial;
+        let end = end_of(inst, patient, at);
         let mut mixed: i64 = 0;
         let mut crowded: i64 = 0;
         let mut ages: i64 = 0;
         for d in at.day.0..end {
-            let day = self.room_days.day_delta(inst, p, old, at, Day(d));
+            let day = self.room_days.day_delta(inst, patient, old, at, Day(d));
             mixed += day.v[MIXED_GENDER];
             crowded += day.v[ROOM_CAPACITY];
             ages += day.s[MIXED_AGE];
@@ -69,12 +69,12 @@ impl CellLedgers {
 
     // What the room and its nurses have more over the shifts of a placement with the patient there than without.
     fn more_over_shifts(&self, inst: &Instance, trial: &Trial) -> ShiftsMore
-        requires { IsTrial inst.now.draft self.now trial.now.p trial.now.old trial.now.at }
-        ensures { result ≡ shifts_more inst.now.draft (timetable_of self.now) trial.now.p trial.now.at }
+        requires { IsTrial inst.now.draft self.now trial.now.patient trial.now.old trial.now.at }
+        ensures { result ≡ shifts_more inst.now.draft (timetable_of self.now) trial.now.patient trial.now.at }
     {
-        let Trial { p, old, at } = *trial;
-        let end = end_of(inst, p, at);
-        let visit = Visit::new(inst, p, old, at);
+        let Trial { patient, old, at } = *trial;
+        let end = end_of(inst, patient, at);
+        let visit = Visit::new(inst, patient, old, at);
         let mut uncovered: i64 = 0;
         let mut missing_skill: i64 = 0;
         let mut overload: i64 = 0;
@@ -94,14 +94,14 @@ impl CellLedgers {
     // The numbers of a placement's delta that rest on its theatre and its surgeon; the others are 0.
     #[inline(always)]
     fn surgery_delta(&self, inst: &Instance, trial: &Trial) -> Bill
-        requires { IsTrial inst.now.draft self.now trial.now.p trial.now.old trial.now.at }
+        requires { IsTrial inst.now.draft self.now trial.now.patient trial.now.old trial.now.at }
         ensures { result
-            ≡ of_surgery (placement_delta inst.now.draft (timetable_of self.now) trial.now.p trial.now.at) }
+            ≡ of_surgery (placement_delta inst.now.draft (timetable_of self.now) trial.now.patient trial.now.at) }
     {
-        let Trial { p, old, at } = *trial;
-        let surgeon = inst.patient(p).surgeon_id;
-        let of_theatre = self.theatres.theatre_delta(inst, p, old, at);
-        let of_surgeon = self.theatres.surgeon_delta(inst, surgeon, p, old, at);
+        let Trial { patient, old, at } = *trial;
+        let surgeon = inst.patient(patient).surgeon_id;
+        let of_theatre = self.theatres.theatre_delta(inst, patient, old, at);
+        let of_surgeon = self.theatres.surgeon_delta(inst, surgeon, patient, old, at);
         Bill {
             v: [
                 0,
@@ -129,13 +129,13 @@ impl CellLedgers {
 
     // What a placement costs once it is made, less what its cells cost without it.
     fn delta(&self, inst: &Instance, trial: &Trial) -> Bill
-        requires { IsTrial inst.now.draft self.now trial.now.p trial.now.old trial.now.at }
-        ensures delta { result ≡ placement_delta inst.now.draft (timetable_of self.now) trial.now.p trial.now.at }
+        requires { IsTrial inst.now.draft self.now trial.now.patient trial.now.old trial.now.at }
+        ensures delta { result ≡ placement_delta inst.now.draft (timetable_of self.now) trial.now.patient trial.now.at }
         ensures within { IsWithin (10 ^ 11) result }
     {
-        let own = stay_change(inst.patient(trial.p), trial.at);
+        let own = stay_change(inst.patient(trial.patient), trial.at);
         let surgery = self.surgery_delta(inst, trial);
-        let care = self.nurses.care_delta(inst, trial.p, trial.at);
+        let care = self.nurses.care_delta(inst, trial.patient, trial.at);
         let days = self.more_over_days(inst, trial);
         let shifts = self.more_over_shifts(inst, trial);
         Bill {
@@ -179,14 +179,7 @@ impl CellLedgers {
     {
         match stay {
             None => Bill::zero(),
-            Some(at) => self.delta(
-                inst,
-                &Trial {
-                    p: patient,
-                    old,
-                    at,
-                },
-            ),
+            Some(at) => self.delta(inst, &Trial { patient, old, at }),
         }
     }
 
@@ -210,7 +203,7 @@ impl CellLedgers {
         let after = self.surgery_delta(
             inst,
             &Trial {
-                p: patient,
+                patient,
                 old,
                 at: to,
             },
@@ -218,7 +211,7 @@ impl CellLedgers {
         let before = self.surgery_delta(
             inst,
             &Trial {
-                p: patient,
+                patient,
                 old,
                 at: from,
             },

@@ -78,7 +78,7 @@ impl Stream {
     }
 }
 
-// The word modulo n.
+// A choice among `count`, from 0, by a word: none where there is nothing to choose from.
 fn choose(word: u64, count: u32) -> Option<u32>
     ensures value { result ≡ choose word count }
     ensures below { IfSome result (λ i. i < count) }
@@ -140,14 +140,20 @@ fn choose_day(inst: &Instance, word: u64, patient: u32) -> Option<u32>
     }
 }
 
-fn draw_place(inst: &Instance, u1: u64, u2: u64, u3: u64, u4: u64) -> Option<Move>
-    ensures value { result ≡ drawn_place inst.now.draft u1 u2 u3 u4 }
+fn draw_place(
+    inst: &Instance,
+    patient_word: u64,
+    day_word: u64,
+    room_word: u64,
+    theatre_word: u64,
+) -> Option<Move>
+    ensures value { result ≡ drawn_place inst.now.draft patient_word day_word room_word theatre_word }
     ensures inside { IfSome result (IsMoveOf inst.now.draft) }
 {
-    let p = choose(u1, inst.patients())?;
-    let d = choose_day(inst, u2, p)?;
-    let r = choose(u3, inst.rooms())?;
-    let t = choose(u4, inst.theatres())?;
+    let p = choose(patient_word, inst.patients())?;
+    let d = choose_day(inst, day_word, p)?;
+    let r = choose(room_word, inst.rooms())?;
+    let t = choose(theatre_word, inst.theatres())?;
     Some(Move::Place(
         PatientNo(p),
         Placement {
@@ -158,87 +164,105 @@ fn draw_place(inst: &Instance, u1: u64, u2: u64, u3: u64, u4: u64) -> Option<Mov
     ))
 }
 
-fn draw_withdrawal(inst: &Instance, u1: u64) -> Option<Move>
-    ensures value { result ≡ drawn_withdrawal inst.now.draft u1 }
+fn draw_withdrawal(inst: &Instance, patient_word: u64) -> Option<Move>
+    ensures value { result ≡ drawn_withdrawal inst.now.draft patient_word }
     ensures inside { IfSome result (IsMoveOf inst.now.draft) }
 {
-    let p = choose(u1, inst.patients())?;
+    let p = choose(patient_word, inst.patients())?;
     Some(Move::Withdraw(PatientNo(p)))
 }
 
-fn draw_day(inst: &Instance, u1: u64, u2: u64) -> Option<Move>
-    ensures value { result ≡ drawn_day inst.now.draft u1 u2 }
+fn draw_day(inst: &Instance, patient_word: u64, day_word: u64) -> Option<Move>
+    ensures value { result ≡ drawn_day inst.now.draft patient_word day_word }
     ensures inside { IfSome result (IsMoveOf inst.now.draft) }
 {
-    let p = choose(u1, inst.patients())?;
-    let d = choose_day(inst, u2, p)?;
+    let p = choose(patient_word, inst.patients())?;
+    let d = choose_day(inst, day_word, p)?;
     Some(Move::SetDay(PatientNo(p), Day(d)))
 }
 
-fn draw_nurse_swap(inst: &Instance, u1: u64, u2: u64, u3: u64) -> Option<Move>
-    ensures value { result ≡ drawn_nurse_swap inst.now.draft u1 u2 u3 }
+fn draw_nurse_swap(
+    inst: &Instance,
+    shift_word: u64,
+    room_word: u64,
+    other_word: u64,
+) -> Option<Move>
+    ensures value { result ≡ drawn_nurse_swap inst.now.draft shift_word room_word other_word }
     ensures inside { IfSome result (IsMoveOf inst.now.draft) }
 {
-    let k = choose(u1, inst.shifts())?;
-    let a = choose(u2, inst.rooms())?;
-    let b = choose(u3, inst.rooms())?;
+    let k = choose(shift_word, inst.shifts())?;
+    let a = choose(room_word, inst.rooms())?;
+    let b = choose(other_word, inst.rooms())?;
     Some(Move::SwapNurses(Shift(k), RoomNo(a), RoomNo(b)))
 }
 
-fn draw_nurse(inst: &Instance, u1: u64, u2: u64, u3: u64) -> Option<Move>
-    ensures value { result ≡ drawn_nurse inst.now.draft u1 u2 u3 }
+fn draw_nurse(inst: &Instance, room_word: u64, shift_word: u64, nurse_word: u64) -> Option<Move>
+    ensures value { result ≡ drawn_nurse inst.now.draft room_word shift_word nurse_word }
     ensures inside { IfSome result (IsMoveOf inst.now.draft) }
 {
-    let r = choose(u1, inst.rooms())?;
-    let k = choose(u2, inst.shifts())?;
-    let n = choose_nurse(inst, u3, k)?;
+    let r = choose(room_word, inst.rooms())?;
+    let k = choose(shift_word, inst.shifts())?;
+    let n = choose_nurse(inst, nurse_word, k)?;
     Some(Move::Nurse(RoomNo(r), Shift(k), n))
 }
 
-fn draw_run(inst: &Instance, u1: u64, u2: u64, u3: u64, u4: u64) -> Option<Move>
-    ensures value { result ≡ drawn_run inst.now.draft u1 u2 u3 u4 }
+fn draw_run(
+    inst: &Instance,
+    nurse_word: u64,
+    room_word: u64,
+    day_word: u64,
+    length_word: u64,
+) -> Option<Move>
+    ensures value { result ≡ drawn_run inst.now.draft nurse_word room_word day_word length_word }
     ensures inside { IfSome result (IsMoveOf inst.now.draft) }
 {
-    let n = choose(u1, inst.nurses())?;
-    let r = choose(u2, inst.rooms())?;
-    let d = choose(u3, inst.days())?;
-    Some(Move::NurseRun(NurseNo(n), RoomNo(r), Day(d), (1 + u4 % 7) as u32))
+    let n = choose(nurse_word, inst.nurses())?;
+    let r = choose(room_word, inst.rooms())?;
+    let d = choose(day_word, inst.days())?;
+    Some(Move::NurseRun(NurseNo(n), RoomNo(r), Day(d), (1 + length_word % 7) as u32))
 }
 
 #[tactic(auto, unfolding(ih_plan::specs::Draws::drawn))]
-fn drawn(inst: &Instance, kind: u64, u1: u64, u2: u64, u3: u64, u4: u64) -> Option<Move>
-    ensures value { result ≡ drawn inst.now.draft kind u1 u2 u3 u4 }
+fn drawn(
+    inst: &Instance,
+    kind: u64,
+    first: u64,
+    second: u64,
+    third: u64,
+    fourth: u64,
+) -> Option<Move>
+    ensures value { result ≡ drawn inst.now.draft kind first second third fourth }
     ensures inside { IfSome result (IsMoveOf inst.now.draft) }
 {
     if kind < 3 {
-        draw_place(inst, u1, u2, u3, u4)
+        draw_place(inst, first, second, third, fourth)
     } else if kind == 3 {
-        draw_withdrawal(inst, u1)
+        draw_withdrawal(inst, first)
     } else if kind < 6 {
-        draw_day(inst, u1, u2)
+        draw_day(inst, first, second)
     } else if kind < 8 {
-        let (p, r) = choose_two(u1, inst.patients(), u2, inst.rooms())?;
+        let (p, r) = choose_two(first, inst.patients(), second, inst.rooms())?;
         Some(Move::SetRoom(PatientNo(p), RoomNo(r)))
     } else if kind == 8 {
-        let (p, t) = choose_two(u1, inst.patients(), u2, inst.theatres())?;
+        let (p, t) = choose_two(first, inst.patients(), second, inst.theatres())?;
         Some(Move::SetTheatre(PatientNo(p), TheatreNo(t)))
     } else if kind == 9 {
-        let (p, q) = choose_two(u1, inst.patients(), u2, inst.patients())?;
+        let (p, q) = choose_two(first, inst.patients(), second, inst.patients())?;
         Some(Move::SwapRooms(PatientNo(p), PatientNo(q)))
     } else if kind < 12 {
-        draw_nurse_swap(inst, u1, u2, u3)
+        draw_nurse_swap(inst, first, second, third)
     } else if kind < 15 {
-        draw_nurse(inst, u1, u2, u3)
+        draw_nurse(inst, first, second, third)
     } else {
-        draw_run(inst, u1, u2, u3, u4)
+        draw_run(inst, first, second, third, fourth)
     }
 }
 
-fn draw(inst: &Instance, u0: u64, u1: u64, u2: u64, u3: u64, u4: u64) -> Move
-    ensures value { result ≡ draw inst.now.draft u0 u1 u2 u3 u4 }
+fn draw(inst: &Instance, kind_word: u64, first: u64, second: u64, third: u64, fourth: u64) -> Move
+    ensures value { result ≡ draw inst.now.draft kind_word first second third fourth }
     ensures inside { IsMoveOf inst.now.draft result }
 {
-    match drawn(inst, u0 % 16, u1, u2, u3, u4) {
+    match drawn(inst, kind_word % 16, first, second, third, fourth) {
         None => Move::Idle,
         Some(mv) => mv,
     }

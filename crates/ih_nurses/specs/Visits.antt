@@ -25,7 +25,7 @@ IsBefore I p old at (Other stay) = old ≡ Some stay
 
 -- whose placement it is, and which one
 abbrev pub patient_of : Visit → PatientNo
-patient_of visit = visit.p
+patient_of visit = visit.patient
 
 abbrev pub placement_of : Visit → Placement
 placement_of visit = visit.at
@@ -33,8 +33,8 @@ placement_of visit = visit.at
 -- The visit is one of a patient and a placement of the instance: it has the patient's workloads and skills, and the
 -- patient's present stay lies so to the placement.
 pub record IsVisitOf (I : Draft) (old : Option Placement) (visit : Visit) : Type 0 where
-  pub patient : visit.p.0 < patient_count I
+  pub patient : visit.patient.0 < patient_count I
   pub placement : IsPlacement I visit.at
-  pub workload_is : visit.workload.now ≡ (person_of I visit.p.0).workload
-  pub skill_is : visit.skill.now ≡ (person_of I visit.p.0).skill
-  pub before_is : IsBefore I visit.p.0 old visit.at visit.before
+  pub workload_is : visit.workload.now ≡ (person_of I visit.patient.0).workload
+  pub skill_is : visit.skill.now ≡ (person_of I visit.patient.0).skill
+  pub before_is : IsBefore I visit.patient.0 old visit.at visit.before

@@ -97,7 +97,7 @@ impl Nurses {
     {
         match nurse_at(inst, &self.plan, visit.at.room, shift) {
             None => ShiftDelta {
-                uncovered: self.alone_delta(inst, visit.at.room, shift, visit.p),
+                uncovered: self.alone_delta(inst, visit.at.room, shift, visit.patient),
                 missing_skill: 0,
                 overload: 0,
             },

@@ -25,7 +25,7 @@ pub enum Before {
 /// What is the same in every shift of a patient's placement.
 #[derive(Clone, Copy)]
 pub struct Visit<'a> {
-    pub(crate) p: PatientNo,
+    pub(crate) patient: PatientNo,
     pub(crate) at: Placement,
     // What the patient asks of a nurse in each shift of a stay, from the first on.
     pub(crate) workload: &'a [u32],
@@ -80,7 +80,7 @@ impl<'a> Visit<'a> {
     {
         let a = inst.patient(patient);
         Visit {
-            p: patient,
+            patient,
             at,
             workload: a.workload_produced.as_slice(),
             skill: a.skill_level_required.as_slice(),
@@ -101,20 +101,29 @@ pub fn present_stay_load(
     come: u32,
 ) -> u32
     requires plan { IsPlanOf inst.now.draft plan.now }
-    requires counted { has_day inst.now.draft visit.now.p.0 (Some visit.now.at) (day_of shift.0) ≡ true }
+    requires counted { has_day inst.now.draft visit.now.patient.0 (Some visit.now.at) (day_of shift.0) ≡ true }
     requires shift { shift.0 < shift_count inst.now.draft }
     requires nurse { care_of plan.now visit.now.at.room.0 shift.0 ≡ Some nurse.0 }
-    requires visit { IsVisitOf inst.now.draft (stay_of plan.now visit.now.p.0) visit.now }
+    requires visit { IsVisitOf inst.now.draft (stay_of plan.now visit.now.patient.0) visit.now }
     requires come { come
-        ≡ slice_index (person_of inst.now.draft visit.now.p.0).workload (shift.0 - 3 * visit.now.at.day.0) }
+        ≡ slice_index (person_of inst.now.draft visit.now.patient.0).workload (shift.0 - 3 * visit.now.at.day.0) }
     requires small { come ≤ 100000 }
     ensures value { result
-        ≡ load_of_stay inst.now.draft plan.now visit.now.p.0 (stay_of plan.now visit.now.p.0) nurse.0 shift.0 }
+        ≡ load_of_stay inst.now.draft plan.now visit.now.patient.0
+        (stay_of plan.now visit.now.patient.0) nurse.0 shift.0 }
     ensures bound { result ≤ 100000 }
 {
     match visit.before {
         Before::Apart => 0,
         Before::Same => come,
-        Before::Other(stay) => stay_load(inst, plan, visit.p, visit.workload, stay, nurse, shift),
+        Before::Other(stay) => stay_load(
+            inst,
+            plan,
+            visit.patient,
+            visit.workload,
+            stay,
+            nurse,
+            shift,
+        ),
     }
 }

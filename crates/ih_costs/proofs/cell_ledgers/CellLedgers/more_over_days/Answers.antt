@@ -28,13 +28,13 @@ loop-d-preserved c =
     let P = timetable_of c.args.self.now in
     let days = c.args.inst.now.valid.days in
     let few : c.loop-d.d ≤ 200 = omega arith in
-    days-more c.args.inst.now.draft P c.args.trial.now.p c.args.trial.now.at c.loop-d.d _ _ _ c.loop-d.invariant c.day_delta-day.result
+    days-more c.args.inst.now.draft P c.args.trial.now.patient c.args.trial.now.at c.loop-d.d _ _ _ c.loop-d.invariant c.day_delta-day.result
     (c.day_delta-day.ensures.delta P c.requires.stands.room_days c.requires.stay) c.day_delta-day.ensures.within few (omega arith)
 
 pub returns : goal.returns
 returns c =
     let I = c.args.inst.now.draft in
     let order = c.end_of-end.ensures.order in
-    let whole : c.loop-d.d ≡ end_of I c.args.trial.now.p.0 c.args.trial.now.at = omega (arith, c.end_of-end.ensures.value) in
+    let whole : c.loop-d.d ≡ end_of I c.args.trial.now.patient.0 c.args.trial.now.at = omega (arith, c.end_of-end.ensures.value) in
     let told = rw whole at c.loop-d.invariant in
     rw (told.mixed.told, told.crowded.told, told.ages.told) refl

@@ -16,13 +16,13 @@ loop-k-init c = record { uncovered = increased-none _ _ _; missing_skill = incre
 pub shift_delta-delta-requires-clause-visit : goal.shift_delta-delta-requires-clause-visit
 shift_delta-delta-requires-clause-visit c =
     let P = timetable_of c.args.self.now in
-    let stay : stay_of P c.new-visit.result.p.0 ≡ c.args.trial.now.old = ap (λ (p : PatientNo). stay_of P p.0) c.new-visit.ensures.patient ∙ c.requires.stay in
+    let stay : stay_of P c.new-visit.result.patient.0 ≡ c.args.trial.now.old = ap (λ (p : PatientNo). stay_of P p.0) c.new-visit.ensures.patient ∙ c.requires.stay in
     subst (λ o. IsVisitOf c.args.inst.now.draft o c.new-visit.result) (sym stay) c.new-visit.ensures.visit
 
 pub shift_delta-delta-requires-clause-counted : goal.shift_delta-delta-requires-clause-counted
 shift_delta-delta-requires-clause-counted c =
     rw (c.new-visit.ensures.patient, c.new-visit.ensures.placement)
-    (shift-covered c.args.trial.now.at.day.0 (person_of c.args.inst.now.draft c.args.trial.now.p.0).length_of_stay c.args.inst.now.draft.days c.loop-k.k (omega arith)
+    (shift-covered c.args.trial.now.at.day.0 (person_of c.args.inst.now.draft c.args.trial.now.patient.0).length_of_stay c.args.inst.now.draft.days c.loop-k.k (omega arith)
     (omega (arith, c.end_of-end.ensures.value, c.loop-k-test.true)))
 
 pub overflow_add-uncovered : goal.overflow_add-uncovered
@@ -48,13 +48,13 @@ loop-k-preserved c =
     let uncovered = rw (c.new-visit.ensures.patient, c.new-visit.ensures.placement) at (told.uncovered P stands) in
     let missing = rw (c.new-visit.ensures.patient, c.new-visit.ensures.placement) at (told.missing_skill P stands) in
     let overload = rw (c.new-visit.ensures.patient, c.new-visit.ensures.placement) at (told.overload P stands) in
-    shifts-more c.args.inst.now.draft P c.args.trial.now.p c.args.trial.now.at c.loop-k.k _ _ _ c.loop-k.invariant few (omega arith)
+    shifts-more c.args.inst.now.draft P c.args.trial.now.patient c.args.trial.now.at c.loop-k.k _ _ _ c.loop-k.invariant few (omega arith)
     delta.uncovered delta.missing_skill delta.overload (omega arith) (omega arith) (omega arith) uncovered missing overload
 
 pub returns : goal.returns
 returns c =
     let I = c.args.inst.now.draft in
     let order = c.end_of-end.ensures.order in
-    let whole : c.loop-k.k ≡ 3 * end_of I c.args.trial.now.p.0 c.args.trial.now.at = omega (arith, c.end_of-end.ensures.value) in
+    let whole : c.loop-k.k ≡ 3 * end_of I c.args.trial.now.patient.0 c.args.trial.now.at = omega (arith, c.end_of-end.ensures.value) in
     let told = rw whole at c.loop-k.invariant in
     rw (told.uncovered.told, told.missing_skill.told, told.overload.told) refl

@@ -4,4 +4,4 @@ use Rattle.ih_costs.proofs.cell_ledgers.CellLedgers.more_over_shifts.Given as go
 
 -- the shifts before k are told
 abbrev pub invariant-loop-k : goal.invariant-loop-k
-invariant-loop-k l = AreShiftsTold l.inst.draft (timetable_of l.self) l.fn.trial.p l.fn.trial.at l.k l.uncovered l.missing_skill l.overload
+invariant-loop-k l = AreShiftsTold l.inst.draft (timetable_of l.self) l.fn.trial.patient l.fn.trial.at l.k l.uncovered l.missing_skill l.overload

@@ -15,16 +15,16 @@ use Rattle.ih_nurses.proofs.nurses.Nurses.load_delta.Goals as goal
 pub entry-come-requires-clause-inside : goal.entry-come-requires-clause-inside
 entry-come-requires-clause-inside c =
     let I = c.args.inst.now.draft in
-    let person = person_of I c.args.visit.now.p.0 in
-    let len = workload-len I c.args.visit.now.p.0 c.args.inst.now.valid in
+    let person = person_of I c.args.visit.now.patient.0 in
+    let len = workload-len I c.args.visit.now.patient.0 c.args.inst.now.valid in
     rw c.requires.visit.workload_is (entry-inside I c.args.visit.now.at.day.0 person.length_of_stay c.args.shift.0 (length person.workload) len c.requires.counted c.requires.shift)
 
 pub present_stay_load-gone-requires-clause-small : goal.present_stay_load-gone-requires-clause-small
 present_stay_load-gone-requires-clause-small c =
     let I = c.args.inst.now.draft in
     let place = c.args.shift.0 - 3 * c.args.visit.now.at.day.0 in
-    let come : c.entry-come.result ≡ slice_index (person_of I c.args.visit.now.p.0).workload place = c.entry-come.ensures ∙ ap (λ list. slice_index list place) c.requires.visit.workload_is in
-    omega (arith, come, workload-most I c.args.visit.now.p.0 place c.args.inst.now.valid)
+    let come : c.entry-come.result ≡ slice_index (person_of I c.args.visit.now.patient.0).workload place = c.entry-come.ensures ∙ ap (λ list. slice_index list place) c.requires.visit.workload_is in
+    omega (arith, come, workload-most I c.args.visit.now.patient.0 place c.args.inst.now.valid)
 
 pub overflow_sub-without : goal.overflow_sub-without
 overflow_sub-without c =
@@ -34,7 +34,7 @@ overflow_sub-without c =
     let n = c.args.nurse.0 in
     let k = c.args.shift.0 in
     let all = c.load-all.ensures.work ∙ (ap (λ ls. load_at I ls n k) c.as_slice.ensures.value ∙ own.loads_are.each n k c.requires.nurse c.requires.shift) in
-    omega (arith, all, c.present_stay_load-gone.ensures.value, load-has I plan c.args.visit.now.p own.fits c.requires.visit.patient n k)
+    omega (arith, all, c.present_stay_load-gone.ensures.value, load-has I plan c.args.visit.now.patient own.fits c.requires.visit.patient n k)
 
 pub overflow_add-with : goal.overflow_add-with
 overflow_add-with c =
@@ -44,14 +44,14 @@ overflow_add-with c =
     let k = c.args.shift.0 in
     let all = c.load-all.ensures.work ∙ (ap (λ ls. load_at I ls n k) c.as_slice.ensures.value ∙ own.loads_are.each n k c.requires.nurse c.requires.shift) in
     let place = k - 3 * c.args.visit.now.at.day.0 in
-    let come : c.entry-come.result ≡ slice_index (person_of I c.args.visit.now.p.0).workload place = c.entry-come.ensures ∙ ap (λ list. slice_index list place) c.requires.visit.workload_is in
-    omega (arith, all, come, workload-most I c.args.visit.now.p.0 place c.args.inst.now.valid, load-most I c.args.self.now.plan n k c.args.inst.now.valid)
+    let come : c.entry-come.result ≡ slice_index (person_of I c.args.visit.now.patient.0).workload place = c.entry-come.ensures ∙ ap (λ list. slice_index list place) c.requires.visit.workload_is in
+    omega (arith, all, come, workload-most I c.args.visit.now.patient.0 place c.args.inst.now.valid, load-most I c.args.self.now.plan n k c.args.inst.now.valid)
 
 pub returns : goal.returns
 returns c = λ P known.
     let I = c.args.inst.now.draft in
     let plan = c.args.self.now.plan in
-    let p = c.args.visit.now.p in
+    let p = c.args.visit.now.patient in
     let n = c.args.nurse in
     let k = c.args.shift in
     let own = stands-own known in
