@@ -87,8 +87,8 @@ fn work<R: Threads + Wait + Sync, G: Gate>(
     );
 }
 
-// What is advised on the choice with a number: of n workers, that with the number modulo n found it, and it is its
-// answer with the number over n.
+// What is advised on the choice of a number. Choices are dealt to the workers in turn. So the number modulo how many
+// workers there are is the worker who found it, and the quotient is its place among what that worker found.
 fn found_of(findings: &[Findings], number: usize) -> Option<Advice>
     requires { 0 < length findings.now }
     ensures { result ≡ found_of findings.now number }

@@ -107,7 +107,7 @@ fn in_units(best: &Ascent) -> Bound
 }
 
 /// What no feasible timetable of an instance costs less than, or that there is none: the best that prices in so many
-/// rounds show, or in fewer where a round is dear. Patients are dealt to so many workers.
+/// rounds show, or in fewer where a round is dear. Persons are dealt to so many workers.
 pub fn bound<R: Threads + Sync>(
     rt: &R,
     alloc: Global,

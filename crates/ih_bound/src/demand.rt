@@ -111,7 +111,7 @@ impl Demand {
         })
     }
 
-    /// The same again.
+    /// Takes out all that was asked for.
     pub fn clear(&mut self) {
         clear(self.bed.as_mut_slice());
         clear(self.surgeon.as_mut_slice());

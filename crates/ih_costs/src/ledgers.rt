@@ -4,8 +4,8 @@ use crate::cell_ledgers::CellLedgers;
 use crate::copies::copy_plan;
 use crate::footprints::foot_of;
 use crate::pricing::{expand_here, price_of, price_of_write, put_all};
-use crate::row_footprints::gather_behind;
-use crate::row_prices::change_behind;
+use crate::row_footprints::gather_row;
+use crate::row_prices::change_by_row;
 use crate::scratch::Scratch;
 use crate::series::{play_in_row, play_in_row_noting};
 use ih_footprint::{CellList, CellSet, Numbering};
@@ -239,7 +239,7 @@ impl<'a> Ledgers<'a> {
         ensures within { IsWithin (10 ^ 11) result }
         ensures same { self.new ≡ self.old }
     {
-        change_behind(
+        change_by_row(
             self.inst,
             &mut self.cells,
             &[],
@@ -271,7 +271,7 @@ impl<'a> Ledgers<'a> {
         ensures sizes { foot.new.sizes ≡ foot.old.sizes }
         ensures same { self.new ≡ self.old }
     {
-        gather_behind(
+        gather_row(
             self.inst,
             &mut self.cells,
             &[],

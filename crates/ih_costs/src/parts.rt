@@ -18,7 +18,7 @@ impl CellLedgers {
         stay_bill(inst.patient(patient), self.plan().stay(patient))
     }
 
-    /// A cell's part of the bill: the bills of all cells sum to that of the timetable.
+    /// A cell's part of the bill: the parts of all cells sum to the timetable's bill.
     pub fn part(&self, inst: &Instance, cell: Cell) -> Bill
         requires stands { AreLedgers inst.now.draft self.now }
         requires cell { IsCellOf inst.now.draft cell }

@@ -77,7 +77,7 @@ pub fn price_of_write(inst: &Instance, ledgers: &CellLedgers, write: &Write) -> 
 }
 
 // What writes change in the bill, the first of them and the rest. Each but the last is made, so that the next is priced
-// behind it, and taken back.
+// after it, and taken back.
 fn change_in_turn(inst: &Instance, ledgers: &mut CellLedgers, write: &Write, rest: &[Write]) -> Bill
     requires stands { AreLedgers inst.now.draft ledgers.old }
     requires write { IsWriteOf inst.now.draft write.now }

@@ -15,31 +15,31 @@ use ih_moves::Writes;
 use ih_plan::{Move, Write};
 use ih_tables::Instance;
 
-/// Gathers the footprints of moves in a row, behind some writes: these are made first, and taken back in the end.
-/// Each move but the last is made too, so that the next one's cells are gathered behind it. `looked` is room for the
-/// cells that a move's writes are chosen by.
-pub fn gather_behind(
+/// Gathers the footprints of moves in a row, once the writes `before` are made: these are taken back in the end. Each
+/// move but the last is made too, so that the next one's cells are gathered after it. `looked` is room for the cells
+/// that a move's writes are chosen by.
+pub fn gather_row(
     inst: &Instance,
     ledgers: &mut CellLedgers,
-    behind: &[Write],
+    before: &[Write],
     moves: &[Move],
     scratch: &mut Scratch,
     looked: &mut CellList,
 )
     requires stands { AreLedgers inst.now.draft ledgers.old }
-    requires behind { AreWritesOf inst.now.draft behind.now }
+    requires before { AreWritesOf inst.now.draft before.now }
     requires moves { AreMoves inst.now.draft moves.now }
     requires set { scratch.old.set.sizes ≡ sizes_of inst.now.draft }
     requires sizes { looked.old.sizes ≡ sizes_of inst.now.draft }
     ensures stands { AreLedgersOf inst.now.draft (timetable_of ledgers.old) ledgers.new }
     ensures gathers { Gathers scratch.old.set scratch.new.set
-        (all_touch inst.now.draft (put_all behind.now (timetable_of ledgers.old)) moves.now) }
+        (all_touch inst.now.draft (put_all before.now (timetable_of ledgers.old)) moves.now) }
     ensures sizes { looked.new.sizes ≡ looked.old.sizes }
 {
-    match behind.split_first() {
+    match before.split_first() {
         Some((w, rest)) => {
             let undo = put_for_now(inst, ledgers, w);
-            gather_behind(inst, ledgers, rest, moves, scratch, looked);
+            gather_row(inst, ledgers, rest, moves, scratch, looked);
             ledgers.put(inst, &undo);
         }
         None => match moves.split_first() {
@@ -49,10 +49,10 @@ pub fn gather_behind(
                 if later.len() == 0 {
                     return;
                 }
-                // Expanded anew, into a list of its own: the calls behind this one write over the other.
+                // Expanded anew, into a list of its own: the calls after this one write over the other.
                 let mut made = Writes::new();
                 expand_here(inst, ledgers, mv, &mut made);
-                gather_behind(inst, ledgers, made.as_slice(), later, scratch, looked);
+                gather_row(inst, ledgers, made.as_slice(), later, scratch, looked);
             }
         },
     }

@@ -10,25 +10,25 @@ use ih_moves::Writes;
 use ih_plan::{Move, Write};
 use ih_tables::{Bill, Instance};
 
-/// What moves in a row change in the bill, behind some writes: these are made first, and taken back in the end. Each
-/// move but the last is made too, so that the next is priced behind it. `writes` is room for the writes of one move.
-pub fn change_behind(
+/// What moves in a row change in the bill, once the writes `before` are made: these are taken back in the end. Each
+/// move but the last is made too, so that the next is priced after it. `writes` is room for the writes of one move.
+pub fn change_by_row(
     inst: &Instance,
     ledgers: &mut CellLedgers,
-    behind: &[Write],
+    before: &[Write],
     moves: &[Move],
     writes: &mut Writes,
 ) -> Bill
     requires stands { AreLedgers inst.now.draft ledgers.old }
-    requires behind { AreWritesOf inst.now.draft behind.now }
+    requires before { AreWritesOf inst.now.draft before.now }
     requires moves { AreMoves inst.now.draft moves.now }
     ensures stands { AreLedgersOf inst.now.draft (timetable_of ledgers.old) ledgers.new }
-    ensures change { result ≡ price_of_all inst.now.draft (put_all behind.now (timetable_of ledgers.old)) moves.now }
+    ensures change { result ≡ price_of_all inst.now.draft (put_all before.now (timetable_of ledgers.old)) moves.now }
 {
-    match behind.split_first() {
+    match before.split_first() {
         Some((w, rest)) => {
             let undo = put_for_now(inst, ledgers, w);
-            let change = change_behind(inst, ledgers, rest, moves, writes);
+            let change = change_by_row(inst, ledgers, rest, moves, writes);
             ledgers.put(inst, &undo);
             change
         }
@@ -39,10 +39,10 @@ pub fn change_behind(
                 if later.len() == 0 {
                     return here;
                 }
-                // Expanded anew, into a list of its own: the calls behind this one write over the other.
+                // Expanded anew, into a list of its own: the calls after this one write over the other.
                 let mut made = Writes::new();
                 expand_here(inst, ledgers, mv, &mut made);
-                let further = change_behind(inst, ledgers, made.as_slice(), later, writes);
+                let further = change_by_row(inst, ledgers, made.as_slice(), later, writes);
                 here.add(&further)
             }
         },

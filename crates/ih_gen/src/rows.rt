@@ -11,7 +11,7 @@ use std::alloc::{AllocError, Global};
 
 /// How the things of one kind are made.
 pub trait Makes {
-    // Thing n, by the words of the stream from where it begins.
+    // The thing of a number, by the words of the stream from where it begins.
     ghost thing: { Self → ℕ → List ℕ → Data };
 
     // How many of these words it takes.

@@ -50,7 +50,7 @@ fn meet(seen: &mut [u64], nurse: Option<NurseNo>) -> u32
     }
 }
 
-// The distinct nurses of a room in the shifts from `from` on.
+// How many distinct nurses a room has in `len` shifts, from shift `from` on.
 fn seen_in(inst: &Instance, plan: &Plan, room: RoomNo, from: u32, len: u32) -> u32
     requires plan { IsPlanOf inst.now.draft plan.now }
     requires room { room.0 < room_count inst.now.draft }
@@ -66,7 +66,7 @@ fn seen_in(inst: &Instance, plan: &Plan, room: RoomNo, from: u32, len: u32) -> u
     count
 }
 
-/// The distinct nurses over the shifts of a stay, and 0 where there is none.
+/// How many distinct nurses care over the shifts of a stay, and 0 where there is none.
 #[tactic(auto, using(ih_plan::proofs::ListSteps::none_steps))]
 pub fn distinct_nurses_over(inst: &Instance, plan: &Plan, shift_span: Option<ShiftSpan>) -> u32
     requires plan { IsPlanOf inst.now.draft plan.now }

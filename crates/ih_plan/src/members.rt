@@ -19,7 +19,7 @@ pub trait Members {
         requires day { day.0 < days self.now }
         ensures { result ≡ length (persons self.now room.0 day.0) };
 
-    /// The i-th of them, from 0.
+    /// The one at an index of their list, from 0.
     fn member(&self, room: RoomNo, day: Day, index: u32) -> PersonNo
         requires room { room.0 < rooms self.now }
         requires day { day.0 < days self.now }

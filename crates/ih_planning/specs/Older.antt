@@ -13,7 +13,7 @@ use Rattle.ih_answers.specs.declared.status.Status.{Status}
 use Rattle.ih_answers.specs.declared.status.Status.TheVariants.{ReadFault, StartRefused, OutOfMemory, TooLong}
 use Rattle.ih_answers.specs.Answers.{Answers}
 use Rattle.ih_answers.specs.Texts.{memory_text, too_long_text, unread_text}
-use Rattle.ih_planning.specs.Unread.{behind_name}
+use Rattle.ih_planning.specs.Unread.{after_name}
 
 -- the timetable of the older solution's file, where one is named
 abbrev pub HasOlder : Option Names → Option Text → Draft → Option Timetable → Type 0
@@ -23,7 +23,7 @@ HasOlder files (Some name) I (Some O) = IfSome files (HasSolution name I O)
 
 -- an older solution's fault, and its place, behind the file's name
 abbrev pub older_refused_text : List ℕ → Refusal → List ℕ
-older_refused_text name r = behind_name name (codes "older solution refused: " ++ (refusal_text r ++ codes "\n"))
+older_refused_text name r = after_name name (codes "older solution refused: " ++ (refusal_text r ++ codes "\n"))
 
 -- Why the older solution of an instance can't be had: the status and the text say it.
 abbrev pub EndsOlderUnread : Option Names → Text → Draft → Status → List ℕ → Type 0

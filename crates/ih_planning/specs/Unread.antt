@@ -7,14 +7,14 @@ use Rattle.ih_answers.specs.declared.status.Status.{Status}
 use Rattle.ih_answers.specs.declared.status.Status.TheVariants.{InstanceRefused, StartRefused}
 use Rattle.ih_answers.specs.Inputs.{EndsUnread as EndsUnnamed}
 
--- a text behind the name of the file that it is about
-abbrev pub behind_name : List ℕ → List ℕ → List ℕ
-behind_name name text = name ++ (codes ": " ++ text)
+-- a text after the name of the file that it is about
+abbrev pub after_name : List ℕ → List ℕ → List ℕ
+after_name name text = name ++ (codes ": " ++ text)
 
--- a refusal's text behind its file's name, and any other text as it is
+-- a refusal's text after its file's name, and any other text as it is
 abbrev pub named_text : InputFiles → Status → List ℕ → List ℕ
-named_text r (InstanceRefused e) text = behind_name r.instance text
-named_text r (StartRefused e) text = behind_name (name_in r SolutionInput) text
+named_text r (InstanceRefused e) text = after_name r.instance text
+named_text r (StartRefused e) text = after_name (name_in r SolutionInput) text
 named_text r status text = text
 
 -- the files can't be had: the status and the text say why, and the text which file is refused

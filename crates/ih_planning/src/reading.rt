@@ -5,7 +5,7 @@ ghost use Rattle.ih_plan.specs.Timetable.{IsPlanOf};
 ghost use Rattle.ih_inputs.specs.Errors.{HasOnlyRead};
 ghost use Rattle.ih_inputs.specs.Reading.{HasInputs, files_of};
 ghost use Rattle.ih_answers.specs.Answers.{Answers, HasShelfCause, IsSaid};
-ghost use Rattle.ih_planning.specs.Unread.{EndsUnread, behind_name, named_text};
+ghost use Rattle.ih_planning.specs.Unread.{EndsUnread, after_name, named_text};
 
 use ih_answers::{Answer, Status, out_of_memory};
 use ih_inputs::Inputs;
@@ -13,8 +13,8 @@ use ih_shelf::Shelf;
 use std::alloc::{AllocError, Global};
 use std::rt::Files;
 
-fn behind_name(alloc: Global, name: &str, text: &[u8]) -> Result<Vec<u8>, AllocError>
-    ensures { IfOk result (λ t. t.items ≡ behind_name name.now text.now) }
+fn after_name(alloc: Global, name: &str, text: &[u8]) -> Result<Vec<u8>, AllocError>
+    ensures { IfOk result (λ t. t.items ≡ after_name name.now text.now) }
 {
     let mut out = Vec::new(alloc);
     out.extend_from_slice(name.as_bytes())?;
@@ -23,11 +23,11 @@ fn behind_name(alloc: Global, name: &str, text: &[u8]) -> Result<Vec<u8>, AllocE
     Ok(out)
 }
 
-// The same answer, with its text behind the name.
-fn answer_behind(alloc: Global, name: &str, answer: &Answer) -> Answer
-    ensures { IsSaid answer.now.status (behind_name name.now answer.now.text.items) result }
+// The same answer, with its text after the name.
+fn answer_after_name(alloc: Global, name: &str, answer: &Answer) -> Answer
+    ensures { IsSaid answer.now.status (after_name name.now answer.now.text.items) result }
 {
-    match behind_name(alloc, name, answer.text.as_slice()) {
+    match after_name(alloc, name, answer.text.as_slice()) {
         Ok(text) => Answer {
             status: answer.status,
             text,
@@ -36,15 +36,15 @@ fn answer_behind(alloc: Global, name: &str, answer: &Answer) -> Answer
     }
 }
 
-// A refusal's text stands behind its file's name.
+// A refusal's text stands after its file's name.
 fn named(alloc: Global, instance: &str, solution: Option<&str>, answer: Answer) -> Answer
     ensures { IsSaid answer.status
         (named_text (files_of (record { instance = instance.entry; solution = solution.entry })) answer.status
         answer.text.items) result }
 {
     match answer.status {
-        Status::InstanceRefused(_) => answer_behind(alloc, instance, &answer),
-        Status::StartRefused(_) => answer_behind(alloc, solution.unwrap_or(""), &answer),
+        Status::InstanceRefused(_) => answer_after_name(alloc, instance, &answer),
+        Status::StartRefused(_) => answer_after_name(alloc, solution.unwrap_or(""), &answer),
         _ => answer,
     }
 }

@@ -18,7 +18,7 @@ use ih_shelf::Shelf;
 use std::alloc::Global;
 use std::rt::Files;
 
-// Makes the page whole, then writes it. There is nothing to be said of that.
+// Makes the whole page, then writes it. If that is done, the answer has no text.
 fn write_page<R: Files, S: Shelf>(
     rt: &R,
     alloc: Global,

@@ -13,7 +13,7 @@ use ih_roomdays::RoomDays;
 use ih_tables::{Day, Instance, PatientNo, PersonNo, RoomNo};
 use ih_validate::is_incompatible;
 
-/// The i-th person in a room on a day.
+/// The person at an index of the list of those in a room on a day.
 #[inline(always)]
 pub fn person_at(inst: &Instance, rooms: &RoomDays, room: RoomNo, day: Day, index: u32) -> PersonNo
     requires stands { (P : Timetable) × IsLedgerOf inst.now.draft P rooms.now }

@@ -45,16 +45,16 @@ pub fn draw_day(inst: &Instance, words: &mut RandomWords, patient_no: PatientNo)
 
 /// The number so many places after another one of `count`, cyclically.
 #[inline(always)]
-pub fn cyclic(first: u32, behind: u32, count: u32) -> u32
+pub fn cyclic(first: u32, further: u32, count: u32) -> u32
     requires first { first < count }
-    requires behind { behind < count }
+    requires further { further < count }
     ensures { result < count }
 {
     let rest = count - first;
-    if behind < rest {
-        first + behind
+    if further < rest {
+        first + further
     } else {
-        behind - rest
+        further - rest
     }
 }
 

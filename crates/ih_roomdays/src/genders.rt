@@ -10,7 +10,7 @@ use ih_plan::same_gender;
 use ih_tables::Instance;
 use std::alloc::{AllocError, Global};
 
-// The first person of x's gender.
+// The first person who has the gender of a person.
 fn first_alike(inst: &Instance, person: u32) -> u32
     requires { person < person_count inst.now.draft }
     ensures same { bytes_eq (person_of inst.now.draft person).gender (person_of inst.now.draft result).gender ≡ true }

@@ -30,7 +30,7 @@ pub struct Profile {
 }
 
 impl Profiles {
-    /// The profile of person x.
+    /// The profile of a person.
     #[inline(always)]
     pub fn of(&self, person: u32) -> Profile
         requires profiles { AreInRange (length self.now.genders.items) self.now }

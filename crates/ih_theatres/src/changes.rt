@@ -110,7 +110,7 @@ fn theatre_but(theatres: &[Option<TheatreNo>], patient: u32, but: u32) -> Option
     }
 }
 
-/// Marks on the theatres of the patients in a list but p.
+/// Marks on the theatres of the patients in a list but one, who is there or not.
 pub fn marks_of_theatres_but(
     links: &CompactLinks,
     head: u32,

@@ -107,7 +107,7 @@ pub fn limit_of(inst: &Instance, resource: Resource, day: u32) -> u64
     }
 }
 
-// Lists the patients whom it has at all.
+// Lists all patients of the resource.
 fn list_own(inst: &Instance, plan: &Plan, resource: Resource, own: &mut NumberList)
     requires { IsPlanOf inst.now.draft plan.now }
     ensures { own.new ≡ patients_of inst.now.draft plan.now resource }

@@ -14,5 +14,5 @@ returns-clause-within c =
     let ms = c.args.moves.now in
     let plan = plan-fits I P c.self.inside.cells c.self.invariant.0 in
     let fits : AreMoves I ms = subst (λ (s : LedgersState). AreMoves s.instance ms) (sym c.self.view_is) c.requires in
-    rw c.change_behind.ensures.change
+    rw c.change_by_row.ensures.change
     (change-within I P (after_all I P ms) c.self.inside.inst.now.valid plan (after_all-plan I P ms plan fits))
