@@ -34,7 +34,8 @@ pub fn ascend<R: Threads + Sync>(
     effort: Effort,
     workers: usize,
 ) -> Result<Ascent, AllocError>
-    ensures { IfOk result (λ a. (P : Timetable) → IsFeasible inst.now.draft P → a.value ≤ worth inst.now.draft rates.now P) }
+    ensures { IfOk result (λ a. (P : Timetable) → IsFeasible inst.now.draft P
+        → a.value ≤ worth inst.now.draft rates.now P) }
 {
     let mut workers = new_workers(alloc, inst, workers)?;
     ascend_by(rt, alloc, inst, rates, effort, workers.as_mut_slice())
@@ -50,7 +51,8 @@ fn ascend_by<R: Threads + Sync>(
     workers: &mut [BoundWorker],
 ) -> Result<Ascent, AllocError>
     requires { All (HasFloors inst.now.draft rates.now) workers.old }
-    ensures { IfOk result (λ a. (P : Timetable) → IsFeasible inst.now.draft P → a.value ≤ worth inst.now.draft rates.now P) }
+    ensures { IfOk result (λ a. (P : Timetable) → IsFeasible inst.now.draft P
+        → a.value ≤ worth inst.now.draft rates.now P) }
 {
     raise_floors(rt, inst, rates, &Prices::free(alloc), workers);
     let mut climb = Climb::new(alloc, inst, rates, effort.plain)?;

@@ -96,7 +96,8 @@ fn parts_of(value: u64, spent: &Spent) -> Parts
 // The best of all rounds in units of the cost, rounded up.
 fn in_units(best: &Ascent) -> Bound
     ensures value { result.value * 4096 ≤ best.now.value + 4095 }
-    ensures parts { result.parts.delay + result.parts.left_out + result.parts.theatres + result.parts.nurses ≡ result.value }
+    ensures parts { result.parts.delay + result.parts.left_out + result.parts.theatres + result.parts.nurses
+        ≡ result.value }
 {
     let value = best.value.div_ceil(PARTS);
     Bound {

@@ -105,8 +105,8 @@ impl BoundWorker {
         )
     }
 
-    // Adds up what the persons who are dealt to a worker pay at least: those with its own number, and from there in steps
-    // of as many as there are workers.
+    // Adds up what the persons who are dealt to a worker pay at least: those with its own number, and from there in
+    // steps of as many as there are workers.
     fn sum_dealt(
         &mut self,
         inst: &Instance,

@@ -107,8 +107,8 @@ impl<'a, E: Logged> DeskOver<Turn<Book<'a, E>>> {
     }
 
     /// Offers the next attempt of the seat's worker, and answers its verdict. The history that the seat has then seen
-    /// ends with this entry. It uses one of the seat's turns, waits for it, and takes no memory. For users of the crate:
-    /// a search's workers offer and look by one turn.
+    /// ends with this entry. It uses one of the seat's turns, waits for it, and takes no memory. For users of the
+    /// crate: a search's workers offer and look by one turn.
     pub fn offer<R: Wait>(
         &self,
         rt: &R,

@@ -50,7 +50,8 @@ fn picked_value(
     needs: Needs,
 ) -> Result<Value, AllocError>
     ensures { IsMade (object
-        (patient_members patient picked.now None (map view needs.skills.items) (map view needs.workloads.items))) result }
+        (patient_members patient picked.now None (map view needs.skills.items) (map view needs.workloads.items)))
+        result }
 {
     let person = person_value(alloc, "p", patient, &picked.person, needs)?;
     let room = id_value(alloc, "r", picked.incompatible_room)?;

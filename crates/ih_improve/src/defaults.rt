@@ -15,8 +15,8 @@ pub struct Defaults {
     pub hot: u32,
     /// The heat at the last attempt: a tenth of the middle weight, rounded.
     pub cold: u32,
-    /// The weight of a broken hard rule: twice the greatest weight, but at least 1000. So a unit of a broken rule weighs
-    /// more than one of any cost.
+    /// The weight of a broken hard rule: twice the greatest weight, but at least 1000. So a unit of a broken rule
+    /// weighs more than one of any cost.
     pub hard: u32,
 }
 

@@ -161,8 +161,8 @@ impl<'a> Improver<'a> {
     }
 
     /// One round: each worker goes on from the best timetable so far by attempts of its own, in a thread of its own
-    /// where one can be started, and the best of all is kept. It is never dearer than the one before. Answers whether it
-    /// is better than that; else it is the same.
+    /// where one can be started, and the best of all is kept. It is never dearer than the one before. Answers whether
+    /// it is better than that; else it is the same.
     pub fn round<R: Threads + Sync>(&mut self, rt: &R) -> bool
         requires { self.old.rounds < self.old.settings.rounds }
         ensures search { self.new ≡ led_to self.old self.new.kept }

@@ -7,8 +7,8 @@ use ih_journal::MAX_WORKERS;
 use std::thread::{Threads, for_each_mut};
 
 /// A worker of any kind. Its walk takes no handle, no clock and nothing that another worker changes, so by the language
-/// alone the same calls leave the same. No clause says that. What is proved is that threads add nothing to it: a round is
-/// the first best of what each walk left, in the order of the workers.
+/// alone the same calls leave the same. No clause says that. What is proved is that threads add nothing to it: a round
+/// is the first best of what each walk left, in the order of the workers.
 pub trait Walks {
     ghost use Rattle.std.specs.Prelude.{◌≡◌, ◌<◌, ℕ};
     ghost use Rattle.ih_tables.specs.declared.drafts.Draft.{Draft};
@@ -37,10 +37,10 @@ pub trait Walks {
 pub(crate) fn walk_all<W: Walks + Send, R: Threads + Sync>(rt: &R, leg: &Leg<'_>, workers: &mut [W])
     requires instance { All (λ w. W.instance w ≡ leg.now.instance) workers.old }
     requires count { length workers.old ≡ leg.now.settings.workers }
-    ensures same { (k : ℕ) (d : W) → k < length workers.old
-        → W.instance (slice_index_or workers.new k d) ≡ leg.now.instance }
-    ensures left { (k : ℕ) (d : W) → k < length workers.old
-        → W.leaves leg.now k (W.best (slice_index_or workers.new k d)) }
+    ensures same { (i : ℕ) (d : W) → i < length workers.old
+        → W.instance (slice_index_or workers.new i d) ≡ leg.now.instance }
+    ensures left { (i : ℕ) (d : W) → i < length workers.old
+        → W.leaves leg.now i (W.best (slice_index_or workers.new i d)) }
 {
     for_each_mut(
         rt,

@@ -1,5 +1,5 @@
-//! Lists of numbered nodes in four vectors, changed in place. Each head has a gate, a place after those of the nodes, at
-//! which its list begins and ends: the list is a ring through its gate, so no end has to be told apart.
+//! Lists of numbered nodes in four vectors, changed in place. Each head has a gate, a place after those of the nodes.
+//! Its list is a ring through that gate, which it begins and ends at: no list has an end to be told apart.
 
 ghost use Rattle.std.specs.Prelude.{◌≡◌, ℕ, ◌+◌, ◌^◌, ◌<◌, ◌≤◌, true, false, ◌++◌, ◌∷◌, [], length, map, replicate};
 ghost use Rattle.std.specs.Prelude.{slice_set, IfOk, OnOk};

@@ -103,8 +103,8 @@ fn put_where(wanted: bool, write: Write, out: &mut Writes)
 }
 
 fn put_swapped_rooms(plan: &Plan, patient: PatientNo, other: PatientNo, out: &mut Writes)
-    requires first { patient.0 < length plan.now.stays }
-    requires second { other.0 < length plan.now.stays }
+    requires patient { patient.0 < length plan.now.stays }
+    requires other { other.0 < length plan.now.stays }
     requires empty { out.old ≡ [] }
     ensures made { out.new ≡ swap_stays patient other (stay_of plan.now patient.0) (stay_of plan.now other.0) }
     ensures few { length out.new ≤ 2 }

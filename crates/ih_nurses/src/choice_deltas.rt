@@ -47,18 +47,18 @@ impl Nurses {
         requires room { room.0 < room_count inst.now.draft }
         requires shift { shift.0 < shift_count inst.now.draft }
         requires old { old ≡ choice_of (plan_of self.now) room.0 shift.0 }
-        requires old_nurse { IfSome old (λ a. a.0 < nurse_count inst.now.draft) }
-        requires nurse { (a : NurseNo) → new ≡ Some a → a.0 < nurse_count inst.now.draft }
+        requires old_nurse { IfSome old (λ n. n.0 < nurse_count inst.now.draft) }
+        requires nurse { (n : NurseNo) → new ≡ Some n → n.0 < nurse_count inst.now.draft }
         requires stands { (P : Timetable) × IsLedgerOf inst.now.draft P self.now }
         requires other { (P : Timetable) → IsLedgerOf inst.now.draft P self.now
-            → care_of P room.0 shift.0 ≢ option_map (λ (a : NurseNo). a.0) new }
+            → care_of P room.0 shift.0 ≢ option_map (λ (n : NurseNo). n.0) new }
         requires work { work ≡ sum_by (workload_of inst.now.draft (plan_of self.now) shift.0)
             (present inst.now.draft (plan_of self.now) room.0 (day_of shift.0)) }
         requires bound { work ≤ 256000000 }
         ensures { (P : Timetable) → IsLedgerOf inst.now.draft P self.now
             → result ≡ increase_by_choice P room shift new
-            (λ Q. excess_of inst.now.draft Q shift.0 (care_of P room.0 shift.0) + excess_of inst.now.draft Q shift.0
-            (option_map (λ (a : NurseNo). a.0) new)) }
+            (λ Q. excess_of inst.now.draft Q shift.0 (care_of P room.0 shift.0)
+            + excess_of inst.now.draft Q shift.0 (option_map (λ (n : NurseNo). n.0) new)) }
     {
         let loads = self.loads.as_slice();
         let gone = excess_change(inst, loads, old, shift, work, 0);
@@ -78,10 +78,10 @@ impl Nurses {
     ) -> ChoiceDelta
         requires room { room.0 < room_count inst.now.draft }
         requires shift { shift.0 < shift_count inst.now.draft }
-        requires nurse { (a : NurseNo) → new ≡ Some a → a.0 < nurse_count inst.now.draft }
+        requires nurse { (n : NurseNo) → new ≡ Some n → n.0 < nurse_count inst.now.draft }
         requires stands { (P : Timetable) × IsLedgerOf inst.now.draft P self.now }
         requires other { (P : Timetable) → IsLedgerOf inst.now.draft P self.now
-            → care_of P room.0 shift.0 ≢ option_map (λ (a : NurseNo). a.0) new }
+            → care_of P room.0 shift.0 ≢ option_map (λ (n : NurseNo). n.0) new }
         ensures off { (P : Timetable) → IsLedgerOf inst.now.draft P self.now
             → result.off ≡ increase_by_choice P room shift new (λ Q. off_in inst.now.draft Q room shift) }
         ensures uncovered { (P : Timetable) → IsLedgerOf inst.now.draft P self.now
@@ -93,8 +93,8 @@ impl Nurses {
             (λ Q. seen_by inst.now.draft Q (present inst.now.draft P room.0 (day_of shift.0))) }
         ensures overload { (P : Timetable) → IsLedgerOf inst.now.draft P self.now
             → result.overload ≡ increase_by_choice P room shift new
-            (λ Q. excess_of inst.now.draft Q shift.0 (care_of P room.0 shift.0) + excess_of inst.now.draft Q shift.0
-            (option_map (λ (a : NurseNo). a.0) new)) }
+            (λ Q. excess_of inst.now.draft Q shift.0 (care_of P room.0 shift.0)
+            + excess_of inst.now.draft Q shift.0 (option_map (λ (n : NurseNo). n.0) new)) }
     {
         let persons = &self.here[(shift.0 / 3) as usize];
         let old = nurse_at(inst, &self.plan, room, shift);

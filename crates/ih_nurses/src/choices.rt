@@ -8,7 +8,7 @@ use ih_tables::NurseNo;
 
 /// Whether the choice is this nurse.
 pub fn is_nurse(choice: Option<NurseNo>, nurse: NurseNo) -> bool
-    ensures { result ≡ is_number (option_map (λ (a : NurseNo). a.0) choice) nurse.0 }
+    ensures { result ≡ is_number (option_map (λ (n : NurseNo). n.0) choice) nurse.0 }
 {
     match choice {
         None => false,

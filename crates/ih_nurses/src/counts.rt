@@ -41,11 +41,11 @@ pub fn count(inst: &Instance, counts: &[u8], person: u32, nurse: NurseNo) -> u8
 fn add_count(inst: &Instance, counts: &mut [u8], person: u32, nurse: Option<NurseNo>)
     requires table { length counts.old ≡ person_count inst.now.draft * nurse_count inst.now.draft }
     requires person { person < person_count inst.now.draft }
-    requires nurse { IfSome nurse (λ a. a.0 < nurse_count inst.now.draft) }
-    requires fits { (m : ℕ) → m < nurse_count inst.now.draft → count_at inst.now.draft counts.old person m < 255 }
+    requires nurse { IfSome nurse (λ n. n.0 < nurse_count inst.now.draft) }
+    requires fits { (n : ℕ) → n < nurse_count inst.now.draft → count_at inst.now.draft counts.old person n < 255 }
     ensures len { length counts.new ≡ length counts.old }
-    ensures each { (y m : ℕ) → m < nurse_count inst.now.draft
-        → count_at inst.now.draft counts.new y m ≡ count_at inst.now.draft counts.old y m + one_of person nurse y m }
+    ensures each { (y n : ℕ) → n < nurse_count inst.now.draft
+        → count_at inst.now.draft counts.new y n ≡ count_at inst.now.draft counts.old y n + one_of person nurse y n }
 {
     match nurse {
         None => {}
@@ -58,12 +58,12 @@ fn add_count(inst: &Instance, counts: &mut [u8], person: u32, nurse: Option<Nurs
 fn take_count(inst: &Instance, counts: &mut [u8], person: u32, nurse: Option<NurseNo>)
     requires table { length counts.old ≡ person_count inst.now.draft * nurse_count inst.now.draft }
     requires person { person < person_count inst.now.draft }
-    requires nurse { IfSome nurse (λ a. a.0 < nurse_count inst.now.draft) }
-    requires enough { (m : ℕ) → m < nurse_count inst.now.draft
-        → one_of person nurse person m ≤ count_at inst.now.draft counts.old person m }
+    requires nurse { IfSome nurse (λ n. n.0 < nurse_count inst.now.draft) }
+    requires enough { (n : ℕ) → n < nurse_count inst.now.draft
+        → one_of person nurse person n ≤ count_at inst.now.draft counts.old person n }
     ensures len { length counts.new ≡ length counts.old }
-    ensures each { (y m : ℕ) → m < nurse_count inst.now.draft
-        → count_at inst.now.draft counts.new y m + one_of person nurse y m ≡ count_at inst.now.draft counts.old y m }
+    ensures each { (y n : ℕ) → n < nurse_count inst.now.draft
+        → count_at inst.now.draft counts.new y n + one_of person nurse y n ≡ count_at inst.now.draft counts.old y n }
 {
     match nurse {
         None => {}
@@ -77,11 +77,11 @@ pub fn add_shift_span(inst: &Instance, plan: &Plan, counts: &mut [u8], person: u
     requires person { person < person_count inst.now.draft }
     requires shift_span { IsShiftSpan inst.now.draft span }
     requires table { length counts.old ≡ person_count inst.now.draft * nurse_count inst.now.draft }
-    requires none { (m : ℕ) → m < nurse_count inst.now.draft → count_at inst.now.draft counts.old person m ≡ 0 }
+    requires none { (n : ℕ) → n < nurse_count inst.now.draft → count_at inst.now.draft counts.old person n ≡ 0 }
     ensures len { length counts.new ≡ length counts.old }
-    ensures each { (y m : ℕ) → m < nurse_count inst.now.draft
-        → count_at inst.now.draft counts.new y m
-        ≡ count_at inst.now.draft counts.old y m + (if person == y then nursed_in plan.now (Some span) m else 0) }
+    ensures each { (y n : ℕ) → n < nurse_count inst.now.draft
+        → count_at inst.now.draft counts.new y n
+        ≡ count_at inst.now.draft counts.old y n + (if person == y then nursed_in plan.now (Some span) n else 0) }
 {
     for j in 0..span.len {
         let nurse = nurse_at(inst, plan, span.room, Shift(span.from + j));
@@ -101,12 +101,12 @@ pub fn take_shift_span(
     requires person { person < person_count inst.now.draft }
     requires shift_span { IsShiftSpan inst.now.draft span }
     requires table { length counts.old ≡ person_count inst.now.draft * nurse_count inst.now.draft }
-    requires enough { (m : ℕ) → m < nurse_count inst.now.draft
-        → nursed_in plan.now (Some span) m ≤ count_at inst.now.draft counts.old person m }
+    requires enough { (n : ℕ) → n < nurse_count inst.now.draft
+        → nursed_in plan.now (Some span) n ≤ count_at inst.now.draft counts.old person n }
     ensures len { length counts.new ≡ length counts.old }
-    ensures each { (y m : ℕ) → m < nurse_count inst.now.draft
-        → count_at inst.now.draft counts.new y m + (if person == y then nursed_in plan.now (Some span) m else 0)
-        ≡ count_at inst.now.draft counts.old y m }
+    ensures each { (y n : ℕ) → n < nurse_count inst.now.draft
+        → count_at inst.now.draft counts.new y n + (if person == y then nursed_in plan.now (Some span) n else 0)
+        ≡ count_at inst.now.draft counts.old y n }
 {
     for j in 0..span.len {
         let nurse = nurse_at(inst, plan, span.room, Shift(span.from + j));
@@ -127,7 +127,7 @@ pub fn move_counts(
     requires plan { IsPlanOf inst.now.draft plan.now }
     requires room { room.0 < room_count inst.now.draft }
     requires shift { shift.0 < shift_count inst.now.draft }
-    requires nurse { IfSome new (λ a. a.0 < nurse_count inst.now.draft) }
+    requires nurse { IfSome new (λ n. n.0 < nurse_count inst.now.draft) }
     requires list { room.0 < length persons.now.lists }
     requires persons { persons.now.nodes ≡ person_count inst.now.draft }
     requires there { (x : ℕ) → x < person_count inst.now.draft

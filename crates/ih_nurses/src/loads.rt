@@ -53,13 +53,13 @@ pub fn add_load(
     load: u32,
 )
     requires table { IsTable inst.now.draft loads.old }
-    requires nurse { IfSome nurse (λ a. a.0 < nurse_count inst.now.draft) }
+    requires nurse { IfSome nurse (λ n. n.0 < nurse_count inst.now.draft) }
     requires shift { shift.0 < shift_count inst.now.draft }
-    requires fits { (m : ℕ) → m < nurse_count inst.now.draft
-        → load_at inst.now.draft loads.old m shift.0 + load < 2 ^ 32 }
+    requires fits { (n : ℕ) → n < nurse_count inst.now.draft
+        → load_at inst.now.draft loads.old n shift.0 + load < 2 ^ 32 }
     ensures table { IsTable inst.now.draft loads.new }
-    ensures each { (m j : ℕ) → m < nurse_count inst.now.draft → j < shift_count inst.now.draft
-        → load_at inst.now.draft loads.new m j ≡ load_at inst.now.draft loads.old m j + share nurse shift.0 load m j }
+    ensures each { (n k : ℕ) → n < nurse_count inst.now.draft → k < shift_count inst.now.draft
+        → load_at inst.now.draft loads.new n k ≡ load_at inst.now.draft loads.old n k + share nurse shift.0 load n k }
 {
     match nurse {
         None => {}
@@ -76,13 +76,13 @@ pub fn take_load(
     load: u32,
 )
     requires table { IsTable inst.now.draft loads.old }
-    requires nurse { IfSome nurse (λ a. a.0 < nurse_count inst.now.draft) }
+    requires nurse { IfSome nurse (λ n. n.0 < nurse_count inst.now.draft) }
     requires shift { shift.0 < shift_count inst.now.draft }
-    requires enough { (m : ℕ) → m < nurse_count inst.now.draft
-        → share nurse shift.0 load m shift.0 ≤ load_at inst.now.draft loads.old m shift.0 }
+    requires enough { (n : ℕ) → n < nurse_count inst.now.draft
+        → share nurse shift.0 load n shift.0 ≤ load_at inst.now.draft loads.old n shift.0 }
     ensures table { IsTable inst.now.draft loads.new }
-    ensures each { (m j : ℕ) → m < nurse_count inst.now.draft → j < shift_count inst.now.draft
-        → load_at inst.now.draft loads.new m j + share nurse shift.0 load m j ≡ load_at inst.now.draft loads.old m j }
+    ensures each { (n k : ℕ) → n < nurse_count inst.now.draft → k < shift_count inst.now.draft
+        → load_at inst.now.draft loads.new n k + share nurse shift.0 load n k ≡ load_at inst.now.draft loads.old n k }
 {
     match nurse {
         None => {}
@@ -100,18 +100,18 @@ pub fn move_load(
     load: u32,
 )
     requires table { IsTable inst.now.draft loads.old }
-    requires from { IfSome from (λ a. a.0 < nurse_count inst.now.draft) }
-    requires to { IfSome to (λ a. a.0 < nurse_count inst.now.draft) }
+    requires from { IfSome from (λ n. n.0 < nurse_count inst.now.draft) }
+    requires to { IfSome to (λ n. n.0 < nurse_count inst.now.draft) }
     requires shift { shift.0 < shift_count inst.now.draft }
-    requires small { (m : ℕ) → m < nurse_count inst.now.draft
-        → load_at inst.now.draft loads.old m shift.0 ≤ 256000000 }
+    requires small { (n : ℕ) → n < nurse_count inst.now.draft
+        → load_at inst.now.draft loads.old n shift.0 ≤ 256000000 }
     requires load { load ≤ 256000000 }
-    requires enough { (m : ℕ) → m < nurse_count inst.now.draft
-        → share from shift.0 load m shift.0 ≤ load_at inst.now.draft loads.old m shift.0 }
+    requires enough { (n : ℕ) → n < nurse_count inst.now.draft
+        → share from shift.0 load n shift.0 ≤ load_at inst.now.draft loads.old n shift.0 }
     ensures table { IsTable inst.now.draft loads.new }
-    ensures each { (m j : ℕ) → m < nurse_count inst.now.draft → j < shift_count inst.now.draft
-        → load_at inst.now.draft loads.new m j + share from shift.0 load m j
-        ≡ load_at inst.now.draft loads.old m j + share to shift.0 load m j }
+    ensures each { (n k : ℕ) → n < nurse_count inst.now.draft → k < shift_count inst.now.draft
+        → load_at inst.now.draft loads.new n k + share from shift.0 load n k
+        ≡ load_at inst.now.draft loads.old n k + share to shift.0 load n k }
 {
     take_load(inst, loads, from, shift, load);
     add_load(inst, loads, to, shift, load);
@@ -128,7 +128,7 @@ pub fn excess_change(
     more: u32,
 ) -> i64
     requires table { IsTable inst.now.draft loads.now }
-    requires nurse { IfSome nurse (λ a. a.0 < nurse_count inst.now.draft) }
+    requires nurse { IfSome nurse (λ n. n.0 < nurse_count inst.now.draft) }
     requires shift { shift.0 < shift_count inst.now.draft }
     requires enough { IfSome nurse (λ a. less ≤ load_at inst.now.draft loads.now a.0 shift.0) }
     requires fits { IfSome nurse (λ a. load_at inst.now.draft loads.now a.0 shift.0 - less + more < 2 ^ 32) }

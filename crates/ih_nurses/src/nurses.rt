@@ -126,7 +126,7 @@ impl Nurses {
     pub fn set_care(&mut self, inst: &Instance, room: RoomNo, shift: Shift, nurse: Option<NurseNo>)
         requires room { room.0 < room_count inst.now.draft }
         requires shift { shift.0 < shift_count inst.now.draft }
-        requires nurse { (a : NurseNo) → nurse ≡ Some a → a.0 < nurse_count inst.now.draft }
+        requires nurse { (n : NurseNo) → nurse ≡ Some n → n.0 < nurse_count inst.now.draft }
         requires stands { (P : Timetable) × IsLedgerOf inst.now.draft P self.old }
         ensures { (P : Timetable) → IsLedgerOf inst.now.draft P self.old
             → IsLedgerOf inst.now.draft (put (SetCare room shift nurse) P) self.new }

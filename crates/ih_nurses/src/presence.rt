@@ -14,10 +14,10 @@ fn enter_day(inst: &Instance, here: &mut [CompactLinks], room: RoomNo, day: u32,
     requires room { room.0 < room_count inst.now.draft }
     requires day { day < inst.now.draft.days }
     requires person { person < person_count inst.now.draft }
-    requires free { (s : ℕ) → s < room_count inst.now.draft → is_here here.old s day person ≡ false }
+    requires free { (r : ℕ) → r < room_count inst.now.draft → is_here here.old r day person ≡ false }
     ensures sized { AreSized inst.now.draft here.new }
-    ensures each { (s e y : ℕ) → is_here here.new s e y
-        ≡ (is_here here.old s e y || ((room.0 == s) && ((day == e) && (person == y)))) }
+    ensures each { (r d y : ℕ) → is_here here.new r d y
+        ≡ (is_here here.old r d y || ((room.0 == r) && ((day == d) && (person == y)))) }
 {
     here[day as usize].push_back(room.0, person);
 }
@@ -36,11 +36,11 @@ pub fn enter_days(
     requires order { from ≤ to }
     requires days { to ≤ inst.now.draft.days }
     requires person { person < person_count inst.now.draft }
-    requires free { (s e : ℕ) → s < room_count inst.now.draft → e < inst.now.draft.days
-        → is_here here.old s e person ≡ false }
+    requires free { (r d : ℕ) → r < room_count inst.now.draft → d < inst.now.draft.days
+        → is_here here.old r d person ≡ false }
     ensures sized { AreSized inst.now.draft here.new }
-    ensures each { (s e y : ℕ) → is_here here.new s e y
-        ≡ (is_here here.old s e y || ((room.0 == s) && (in_span from to e && (person == y)))) }
+    ensures each { (r d y : ℕ) → is_here here.new r d y
+        ≡ (is_here here.old r d y || ((room.0 == r) && (in_span from to d && (person == y)))) }
 {
     for d in from..to {
         enter_day(inst, here, room, d, person);
@@ -54,8 +54,8 @@ fn leave_day(inst: &Instance, here: &mut [CompactLinks], room: RoomNo, day: u32,
     requires person { person < person_count inst.now.draft }
     requires there { is_here here.old room.0 day person ≡ true }
     ensures sized { AreSized inst.now.draft here.new }
-    ensures each { (s e y : ℕ)
-        → is_here here.new s e y ≡ (is_here here.old s e y && not ((day == e) && (person == y))) }
+    ensures each { (r d y : ℕ)
+        → is_here here.new r d y ≡ (is_here here.old r d y && not ((day == d) && (person == y))) }
 {
     here[day as usize].remove(person);
 }
@@ -73,10 +73,10 @@ pub fn leave_days(
     requires order { from ≤ to }
     requires days { to ≤ inst.now.draft.days }
     requires person { person < person_count inst.now.draft }
-    requires there { (e : ℕ) → in_span from to e ≡ true → is_here here.old room.0 e person ≡ true }
+    requires there { (d : ℕ) → in_span from to d ≡ true → is_here here.old room.0 d person ≡ true }
     ensures sized { AreSized inst.now.draft here.new }
-    ensures each { (s e y : ℕ) → is_here here.new s e y
-        ≡ (is_here here.old s e y && not (in_span from to e && (person == y))) }
+    ensures each { (r d y : ℕ) → is_here here.new r d y
+        ≡ (is_here here.old r d y && not (in_span from to d && (person == y))) }
 {
     for d in from..to {
         leave_day(inst, here, room, d, person);

@@ -29,9 +29,9 @@ pub struct RoomSums {
 // The skill of a choice of nurse. Nobody requires more than that of no nurse.
 #[inline(always)]
 fn level_of(inst: &Instance, nurse: Option<NurseNo>) -> u32
-    requires { IfSome nurse (λ a. a.0 < nurse_count inst.now.draft) }
+    requires { IfSome nurse (λ n. n.0 < nurse_count inst.now.draft) }
     ensures { (skill : ℕ) → skill ≤ 1000
-        → skill - result ≡ skill_missing inst.now.draft (option_map (λ (a : NurseNo). a.0) nurse) (skill ∷ []) }
+        → skill - result ≡ skill_missing inst.now.draft (option_map (λ (n : NurseNo). n.0) nurse) (skill ∷ []) }
 {
     match nurse {
         None => u32::MAX,
@@ -43,7 +43,7 @@ fn level_of(inst: &Instance, nurse: Option<NurseNo>) -> u32
 #[inline(always)]
 fn has_just(inst: &Instance, counts: &[u8], shifts: u8, nurse: Option<NurseNo>, person: u32) -> u32
     requires table { length counts.now ≡ person_count inst.now.draft * nurse_count inst.now.draft }
-    requires nurse { IfSome nurse (λ a. a.0 < nurse_count inst.now.draft) }
+    requires nurse { IfSome nurse (λ n. n.0 < nurse_count inst.now.draft) }
     requires person { person < person_count inst.now.draft }
     ensures value { result ≡ has_just inst.now.draft counts.now shifts nurse person }
     ensures bound { result ≤ 1 }
@@ -76,12 +76,12 @@ pub fn room_sums(
     requires table { length counts.now ≡ person_count inst.now.draft * nurse_count inst.now.draft }
     requires room { room.0 < length persons.now.lists }
     requires persons { persons.now.nodes ≡ person_count inst.now.draft }
-    requires new { IfSome new (λ a. a.0 < nurse_count inst.now.draft) }
-    requires old { IfSome old (λ a. a.0 < nurse_count inst.now.draft) }
+    requires new { IfSome new (λ n. n.0 < nurse_count inst.now.draft) }
+    requires old { IfSome old (λ n. n.0 < nurse_count inst.now.draft) }
     ensures work { result.work ≡ sum_by (workload_of inst.now.draft plan.now shift.0) (list_of persons.now room.0) }
-    ensures new_missing { result.new_missing ≡ skill_missing inst.now.draft (option_map (λ (a : NurseNo). a.0) new)
+    ensures new_missing { result.new_missing ≡ skill_missing inst.now.draft (option_map (λ (n : NurseNo). n.0) new)
         (map (skill_of inst.now.draft plan.now shift.0) (list_of persons.now room.0)) }
-    ensures old_missing { result.old_missing ≡ skill_missing inst.now.draft (option_map (λ (a : NurseNo). a.0) old)
+    ensures old_missing { result.old_missing ≡ skill_missing inst.now.draft (option_map (λ (n : NurseNo). n.0) old)
         (map (skill_of inst.now.draft plan.now shift.0) (list_of persons.now room.0)) }
     ensures come { result.come ≡ sum_by (has_just inst.now.draft counts.now 0 new) (list_of persons.now room.0) }
     ensures gone { result.gone ≡ sum_by (has_just inst.now.draft counts.now 1 old) (list_of persons.now room.0) }

@@ -42,7 +42,7 @@ pub fn workload_in(
 pub fn uncovered(persons: &CompactLinks, room: RoomNo, nurse: Option<NurseNo>) -> u32
     requires room { room.0 < length persons.now.lists }
     ensures value { result
-        ≡ bit (is_none (option_map (λ (a : NurseNo). a.0) nurse) && not (is_empty (list_of persons.now room.0))) }
+        ≡ bit (is_none (option_map (λ (n : NurseNo). n.0) nurse) && not (is_empty (list_of persons.now room.0))) }
     ensures nodes { AreNodes persons.now.nodes (list_of persons.now room.0) }
 {
     let occupied = persons.first(room.0).is_some();
@@ -70,9 +70,9 @@ pub fn has_others(persons: &CompactLinks, room: RoomNo, person: u32) -> bool
 
 /// 1 where there is a nurse, who doesn't work the shift, and 0 where not.
 pub fn nurse_off(inst: &Instance, nurse: Option<NurseNo>, shift: Shift) -> u32
-    requires nurse { IfSome nurse (λ a. a.0 < nurse_count inst.now.draft) }
+    requires nurse { IfSome nurse (λ n. n.0 < nurse_count inst.now.draft) }
     requires shift { shift.0 < shift_count inst.now.draft }
-    ensures { result ≡ bit (not_working inst.now.draft shift.0 (option_map (λ (a : NurseNo). a.0) nurse)) }
+    ensures { result ≡ bit (not_working inst.now.draft shift.0 (option_map (λ (n : NurseNo). n.0) nurse)) }
 {
     match nurse {
         None => 0,
@@ -94,11 +94,11 @@ pub fn choice_costs(
     missing_skill: u32,
 ) -> NursingCosts
     requires room { room.0 < length persons.now.lists }
-    requires nurse { IfSome nurse (λ a. a.0 < nurse_count inst.now.draft) }
+    requires nurse { IfSome nurse (λ n. n.0 < nurse_count inst.now.draft) }
     requires shift { shift.0 < shift_count inst.now.draft }
-    ensures off { result.off ≡ bit (not_working inst.now.draft shift.0 (option_map (λ (a : NurseNo). a.0) nurse)) }
+    ensures off { result.off ≡ bit (not_working inst.now.draft shift.0 (option_map (λ (n : NurseNo). n.0) nurse)) }
     ensures uncovered { result.uncovered
-        ≡ bit (is_none (option_map (λ (a : NurseNo). a.0) nurse) && not (is_empty (list_of persons.now room.0))) }
+        ≡ bit (is_none (option_map (λ (n : NurseNo). n.0) nurse) && not (is_empty (list_of persons.now room.0))) }
     ensures missing_skill { result.missing_skill ≡ missing_skill }
     ensures seen { result.nurses_seen ≡ 0 }
     ensures overload { result.overload ≡ 0 }

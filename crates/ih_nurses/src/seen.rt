@@ -34,7 +34,7 @@ fn meet(seen: &mut [u64], nurse: Option<NurseNo>) -> u32
     requires { IfSome nurse (λ a. a.0 < 64 * length seen.old) }
     ensures len { length seen.new ≡ length seen.old }
     ensures each { (i : ℕ) → is_marked seen.new i
-        ≡ (is_marked seen.old i || is_number (option_map (λ (a : NurseNo). a.0) nurse) i) }
+        ≡ (is_marked seen.old i || is_number (option_map (λ (n : NurseNo). n.0) nurse) i) }
     ensures count { (m : ℕ) → IfSome nurse (λ a. a.0 < m)
         → count_below m (is_marked seen.new) ≡ count_below m (is_marked seen.old) + result }
     ensures bound { result ≤ 1 }

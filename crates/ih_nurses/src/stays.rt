@@ -36,12 +36,12 @@ pub fn add_stay(
 )
     requires stay { IsStayOf inst.now.draft plan.now patient at }
     requires table { IsTable inst.now.draft loads.old }
-    requires small { (m j : ℕ) → m < nurse_count inst.now.draft → j < shift_count inst.now.draft
-        → load_at inst.now.draft loads.old m j ≤ 256000000 }
+    requires small { (n k : ℕ) → n < nurse_count inst.now.draft → k < shift_count inst.now.draft
+        → load_at inst.now.draft loads.old n k ≤ 256000000 }
     ensures table { IsTable inst.now.draft loads.new }
-    ensures each { (m j : ℕ) → m < nurse_count inst.now.draft → j < shift_count inst.now.draft
-        → load_at inst.now.draft loads.new m j
-        ≡ load_at inst.now.draft loads.old m j + stay_load inst.now.draft plan.now patient.0 at m j }
+    ensures each { (n k : ℕ) → n < nurse_count inst.now.draft → k < shift_count inst.now.draft
+        → load_at inst.now.draft loads.new n k
+        ≡ load_at inst.now.draft loads.old n k + stay_load inst.now.draft plan.now patient.0 at n k }
 {
     let end = end_of(inst, patient, at);
     for k in 3 * at.day.0..3 * end {
@@ -61,12 +61,12 @@ pub fn take_stay(
 )
     requires stay { IsStayOf inst.now.draft plan.now patient at }
     requires table { IsTable inst.now.draft loads.old }
-    requires enough { (m j : ℕ) → m < nurse_count inst.now.draft → j < shift_count inst.now.draft
-        → stay_load inst.now.draft plan.now patient.0 at m j ≤ load_at inst.now.draft loads.old m j }
+    requires enough { (n k : ℕ) → n < nurse_count inst.now.draft → k < shift_count inst.now.draft
+        → stay_load inst.now.draft plan.now patient.0 at n k ≤ load_at inst.now.draft loads.old n k }
     ensures table { IsTable inst.now.draft loads.new }
-    ensures each { (m j : ℕ) → m < nurse_count inst.now.draft → j < shift_count inst.now.draft
-        → load_at inst.now.draft loads.new m j + stay_load inst.now.draft plan.now patient.0 at m j
-        ≡ load_at inst.now.draft loads.old m j }
+    ensures each { (n k : ℕ) → n < nurse_count inst.now.draft → k < shift_count inst.now.draft
+        → load_at inst.now.draft loads.new n k + stay_load inst.now.draft plan.now patient.0 at n k
+        ≡ load_at inst.now.draft loads.old n k }
 {
     let end = end_of(inst, patient, at);
     for k in 3 * at.day.0..3 * end {

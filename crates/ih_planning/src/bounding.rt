@@ -58,7 +58,8 @@ fn no_infeasibility(judged: &Option<Judged>, outcome: &Outcome) -> bool
 
 // Says what was found.
 fn said(alloc: Global, judged: &Option<Judged>, outcome: &Outcome) -> Answer
-    ensures { IsSaid (bound_status (no_infeasibility judged.now outcome.now)) (bound_text judged.now outcome.now) result }
+    ensures { IsSaid (bound_status (no_infeasibility judged.now outcome.now))
+        (bound_text judged.now outcome.now) result }
 {
     match bound_text(alloc, outcome, judged) {
         Ok(text) => Answer {

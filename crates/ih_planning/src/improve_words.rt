@@ -234,8 +234,8 @@ fn fault_in(matches: &ArgMatches, improve: &Improve) -> Option<&'static str>
 
 // Reads the words of `improve`.
 pub(crate) fn read_improve<'a>(alloc: Global, words: &'a [String]) -> Result<Improve<'a>, NoCall>
-    ensures read { IsRead improve_call (call_by improve_app lawful_improve (map string_bytes words.entry.now)) improve_app
-        (map string_bytes words.entry.now) result }
+    ensures read { IsRead improve_call (call_by improve_app lawful_improve (map string_bytes words.entry.now))
+        improve_app (map string_bytes words.entry.now) result }
     ensures lawful { IfOk result (λ i. IsLawful (widest_settings (improve_call i))) }
 {
     match matched(improve_description(alloc), words) {

@@ -27,8 +27,8 @@ use std::rt::Files;
 use std::sync::Wait;
 use std::thread::Threads;
 
-// The settings of the search. What isn't given comes from the weights. If one heat is given, the other lies on the right
-// side of it.
+// The settings of the search. What isn't given comes from the weights. If one heat is given, the other lies on the
+// right side of it.
 fn settings_of(inst: &Instance, call: &Improve<'_>) -> Settings
     requires { IsLawful (widest_settings (improve_call call.now)) }
     ensures { AreSettingsOf inst.now.draft (improve_call call.now) result }

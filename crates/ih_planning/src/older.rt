@@ -59,7 +59,8 @@ pub fn read_older<R: Files, S: Shelf>(
 ) -> Result<Option<Plan>, Answer>
     ensures plan { IfOk result (λ o. IfSome o (IsPlanOf inst.now.draft)) }
     ensures read { IfOk result (HasOlder (S.names shelf.old) (option_map (λ t. t.now) since.entry) inst.now.draft) }
-    ensures unread { IfErr result (IsOlderUnread (S.names shelf.old) (option_map (λ t. t.now) since.entry) inst.now.draft) }
+    ensures unread { IfErr result
+        (IsOlderUnread (S.names shelf.old) (option_map (λ t. t.now) since.entry) inst.now.draft) }
     ensures cause { IfErr result (λ a. HasShelfCause S.Shelf shelf.old shelf.new a.status) }
     ensures only { HasOnlyRead S.Shelf shelf.old shelf.new }
 {

@@ -27,8 +27,8 @@ fn is_allowed(inst: &Instance, patient_no: PatientNo, at: Placement) -> bool
 // Whether a patient who isn't admitted may take the place of another for good: the other is optional, and stays as
 // long or longer.
 fn may_replace(inst: &Instance, patient: PatientNo, other_no: PatientNo) -> bool
-    requires first { patient.0 < patient_count inst.now.draft }
-    requires second { other_no.0 < patient_count inst.now.draft }
+    requires patient { patient.0 < patient_count inst.now.draft }
+    requires other { other_no.0 < patient_count inst.now.draft }
 {
     let other = inst.patient(other_no);
     !other.mandatory && inst.patient(patient).length_of_stay <= other.length_of_stay
@@ -42,8 +42,8 @@ fn may_exchange(
     other: PatientNo,
     theirs: Placement,
 ) -> bool
-    requires first { patient.0 < patient_count inst.now.draft }
-    requires second { other.0 < patient_count inst.now.draft }
+    requires patient { patient.0 < patient_count inst.now.draft }
+    requires other { other.0 < patient_count inst.now.draft }
 {
     let differ = mine.day.0 != theirs.day.0 || mine.room.0 != theirs.room.0;
     differ
@@ -60,8 +60,8 @@ fn place_of_other(
     other: PatientNo,
 ) -> Option<Placement>
     requires instance { ledgers.now.instance ≡ inst.now.draft }
-    requires first { patient.0 < patient_count inst.now.draft }
-    requires second { other.0 < patient_count inst.now.draft }
+    requires patient { patient.0 < patient_count inst.now.draft }
+    requires other { other.0 < patient_count inst.now.draft }
     ensures { IfSome result (IsPlacement inst.now.draft) }
 {
     let theirs = stay_of(inst, ledgers, other)?;

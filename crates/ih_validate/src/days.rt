@@ -9,7 +9,7 @@ use ih_plan::{age_group, same_gender};
 use ih_tables::Instance;
 
 fn differs(inst: &Instance, person: u32, others: &[u32]) -> bool
-    requires first { person < person_count inst.now.draft }
+    requires person { person < person_count inst.now.draft }
     requires others { All (λ y. y < person_count inst.now.draft) others.now }
     ensures { result ≡ list_any
         (λ y. not (bytes_eq (person_of inst.now.draft person).gender (person_of inst.now.draft y).gender)) others.now }

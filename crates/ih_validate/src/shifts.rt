@@ -51,7 +51,7 @@ fn skill_below(inst: &Instance, plan: &Plan, here: &[u32], shift: u32, level: u3
     requires plan { IsPlanOf inst.now.draft plan.now }
     requires persons { All (λ x. x < person_count inst.now.draft) here.now }
     requires few { length here.now ≤ 2560 }
-    ensures sum { result ≡ sum_by (λ s. s - level) (map (skill_of inst.now.draft plan.now shift) here.now) }
+    ensures sum { result ≡ sum_by (λ n. n - level) (map (skill_of inst.now.draft plan.now shift) here.now) }
     ensures bound { result ≤ 2560000 }
 {
     let mut sum = 0;

@@ -27,8 +27,8 @@ pub fn run_workers<'a, R: Threads + Wait + Sync, G: Gate>(
     gate: &G,
 )
     requires { All (IsReady 1 desk.now) workers.old }
-    ensures { (k : ℕ) (d : _) → k < length workers.old
-        → Finishes 1 desk.now (slice_index_or workers.old k d) (slice_index_or workers.new k d) }
+    ensures { (i : ℕ) (d : _) → i < length workers.old
+        → Finishes 1 desk.now (slice_index_or workers.old i d) (slice_index_or workers.new i d) }
 {
     run_all(rt, desk, workers, gate);
 }

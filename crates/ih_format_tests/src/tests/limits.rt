@@ -5,8 +5,8 @@ use crate::tests::rows::each_row;
 use ih_fixtures::{TWO_PATIENTS, WARD};
 use std::alloc::{AllocError, Global};
 
-// Numbers of the ward of one day: what stands in the file, what has the greatest number in its place, what has one more,
-// and how that is refused.
+// Numbers of the ward of one day: what stands in the file, what has the greatest number in its place, what has one
+// more, and how that is refused.
 const IN_THE_WARD: &str = r#"
 "days":1 | "days":56 | "days":57 | Range at $.days
 "skill_levels":3 | "skill_levels":1000 | "skill_levels":1001 | Range at $.skill_levels

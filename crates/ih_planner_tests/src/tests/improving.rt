@@ -266,8 +266,8 @@ fn workers_leave_the_same(rt: HostRuntime) {
     assert!(rt; goes(&rt, rt.alloc(), &ALIKE));
 }
 
-// A theatre costs more than the broken rule of a mandatory patient who stays out, if that weighs 1000. So only twice the
-// greatest weight finds a plan: the optional patient stays out. The middle weight is 5.
+// A theatre costs more than the broken rule of a mandatory patient who stays out, if that weighs 1000. So only twice
+// the greatest weight finds a plan: the optional patient stays out. The middle weight is 5.
 const DEAR_THEATRES: [Event<'static>; 6] = [
     Change(
         "i",

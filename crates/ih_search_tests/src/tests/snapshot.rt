@@ -349,7 +349,8 @@ const LATER: Priced = Priced {
     reads: None,
 };
 
-// Whether a nurse who came back leaves a trace, and a price behind another's entry rests on the versions that it raised.
+// Whether a nurse who came back leaves a trace, and a price after another's entry rests on the versions that it
+// raised.
 fn are_seen(alloc: Global, inst: &Instance, start: &Plan) -> bool
     requires { IsPlanOf inst.now.draft start.now }
 {
