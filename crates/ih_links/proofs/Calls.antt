@@ -13,8 +13,8 @@ use Rattle.ih_links.proofs.Ties.{tied-lists, node-below, tied-first, tied-follow
 node_in-node : (n place : ℕ) → place < n → node_in n place ≡ Some place
 node_in-node n place h = let e = lt-ltb place n h in rw e refl
 
-node_in-gate : (n place : ℕ) → n ≤ place → node_in n place ≡ None
-node_in-gate n place h = let e = le-ltb place n h in rw e refl
+node_in-sentinel : (n place : ℕ) → n ≤ place → node_in n place ≡ None
+node_in-sentinel n place h = let e = le-ltb place n h in rw e refl
 
 -- a home below the greatest number is a head's
 home_of-head : (most h : ℕ) → h < most → home_of most h ≡ Some h
@@ -43,19 +43,19 @@ module _ {most : ℕ} {next prev len : List ℕ} {v : LinksState} (raw : List �
   nodes_are : length home ≡ v.nodes
   nodes_are = length-map raw (home_of most) ∙ ap (λ (w : LinksState). w.nodes) view_is
 
-  module _ (head node gate last : ℕ) (head_below : head < length ls) (node_below : node < v.nodes) (free : (h : ℕ) → has node (list_of v h) ≡ false)
-      (gate_is : gate ≡ v.nodes + head) (last_is : last ≡ slice_index_or prev gate last) where
+  module _ (head node sentinel last : ℕ) (head_below : head < length ls) (node_below : node < v.nodes) (free : (h : ℕ) → has node (list_of v h) ≡ false)
+      (sentinel_is : sentinel ≡ v.nodes + head) (last_is : last ≡ slice_index_or prev sentinel last) where
     head_in : head < length len
     head_in = let c = t.count in omega arith
 
     node_inside : node < length home
     node_inside = let n = nodes_are in omega arith
 
-    gate_read : gate ≡ length home + head
-    gate_read = gate_is ∙ ap (λ k. k + head) (sym nodes_are)
+    sentinel_read : sentinel ≡ length home + head
+    sentinel_read = sentinel_is ∙ ap (λ k. k + head) (sym nodes_are)
 
     last_read : last ≡ slice_index prev (length home + head)
-    last_read = last_is ∙ (get_or_default prev gate last 0 (let p = t.prevs in let b = head_in in let n = nodes_are in omega arith) ∙ ap (slice_index prev) gate_read)
+    last_read = last_is ∙ (get_or_default prev sentinel last 0 (let p = t.prevs in let b = head_in in let n = nodes_are in omega arith) ∙ ap (slice_index prev) sentinel_read)
 
     -- the head has another number than the one that says none
     pub push-head : head < most
@@ -72,10 +72,10 @@ module _ {most : ℕ} {next prev len : List ℕ} {v : LinksState} (raw : List �
       push-room = let r = room next prev home len ls t head node head_in node_inside free in let f = t.few in let e = count_read in let b = head_in in omega arith
 
       abbrev next' : List ℕ
-      next' = slice_set (slice_set next last node) node gate
+      next' = slice_set (slice_set next last node) node sentinel
 
       abbrev prev' : List ℕ
-      prev' = slice_set (slice_set prev node last) gate node
+      prev' = slice_set (slice_set prev node last) sentinel node
 
       abbrev home' : List (Option ℕ)
       home' = homes_of most (slice_set raw node head)
@@ -90,7 +90,7 @@ module _ {most : ℕ} {next prev len : List ℕ} {v : LinksState} (raw : List �
       ls' = slice_set ls head (list_of v head ++ node ∷ [])
 
       pushed : Tied most next' prev' home' len' ls'
-      pushed = subst (λ hs. Tied most next' prev' hs len' ls') homes' (rw (gate_read, last_read, count_read) (tied-pushed next prev home len ls t head node head_in node_inside free))
+      pushed = subst (λ hs. Tied most next' prev' hs len' ls') homes' (rw (sentinel_read, last_read, count_read) (tied-pushed next prev home len ls t head node head_in node_inside free))
 
       pub push-lists : lists_of next' home' len' ≡ ls'
       push-lists = tied-lists next' prev' home' len' ls' pushed
@@ -166,7 +166,7 @@ module _ {most : ℕ} {next prev len : List ℕ} {v : LinksState} (raw : List �
 
     pub first-answer : node_in v.nodes first ≡ first_of (list_of v head)
     first-answer = rw (← nodes_are, first_read) (elim (tied-first next prev home len ls t head head_inside) [
-      | inl q ↦ node_in-gate (length home) (slice_index next (length home + head)) q.0 ∙ sym q.1
+      | inl q ↦ node_in-sentinel (length home) (slice_index next (length home + head)) q.0 ∙ sym q.1
       | inr q ↦ node_in-node (length home) (slice_index next (length home + head)) q.0 ∙ sym q.1
     ])
 
@@ -176,7 +176,7 @@ module _ {most : ℕ} {next prev len : List ℕ} {v : LinksState} (raw : List �
 
     pub next-answer : (h : ℕ) → has node (list_of v h) ≡ true → node_in v.nodes after ≡ following node (list_of v h)
     next-answer h m = rw (← nodes_are, behind_read) (elim (tied-following next prev home len ls t h node m) [
-      | inl q ↦ node_in-gate (length home) (slice_index next node) q.0 ∙ sym q.1
+      | inl q ↦ node_in-sentinel (length home) (slice_index next node) q.0 ∙ sym q.1
       | inr q ↦ node_in-node (length home) (slice_index next node) q.0 ∙ sym q.1
     ])
 

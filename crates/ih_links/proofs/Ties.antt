@@ -28,8 +28,8 @@ side home u = if ltb u (length home) then slice_index_or home u None else Some (
 side-node : (home : List (Option ℕ)) (u : ℕ) → u < length home → side home u ≡ slice_index_or home u None
 side-node home u h = let e = lt-ltb u (length home) h in rw e refl
 
-side-gate : (home : List (Option ℕ)) (h : ℕ) → side home (length home + h) ≡ Some h
-side-gate home h = let e = le-ltb (length home + h) (length home) (omega arith) in rw e (ap (λ k. Some k) (omega arith))
+side-sentinel : (home : List (Option ℕ)) (h : ℕ) → side home (length home + h) ≡ Some h
+side-sentinel home h = let e = le-ltb (length home + h) (length home) (omega arith) in rw e (ap (λ k. Some k) (omega arith))
 
 -- Two sets of tables, each as long as its counterpart.
 record SameSizes (next prev : List ℕ) (home : List (Option ℕ)) (len : List ℕ) (ls : List (List ℕ))
@@ -56,12 +56,12 @@ module _ {most : ℕ} (next prev : List ℕ) (home : List (Option ℕ)) (len : L
         absurd (both_ways (has x (slice_index_or ls h [])) (e ∙ ap (is_at h) none) m)
   ]
 
-  gate-free : (h k : ℕ) → has (length home + k) (slice_index_or ls h []) ≡ false
-  gate-free h k = false_from_ne_true (has (length home + k) (slice_index_or ls h [])) (λ m. let b = node-below h (length home + k) m in omega arith)
+  sentinel-free : (h k : ℕ) → has (length home + k) (slice_index_or ls h []) ≡ false
+  sentinel-free h k = false_from_ne_true (has (length home + k) (slice_index_or ls h [])) (λ m. let b = node-below h (length home + k) m in omega arith)
 
   side-ring : (h u : ℕ) → has u ((length home + h) ∷ slice_index_or ls h []) ≡ true → side home u ≡ Some h
   side-ring h u m = elim (has-cases u (length home + h) (slice_index_or ls h []) m) [
-    | inl e ↦ ap (side home) (sym e) ∙ side-gate home h
+    | inl e ↦ ap (side home) (sym e) ∙ side-sentinel home h
     | inr inside ↦ side-node home u (node-below h u inside) ∙ is_at-true h (slice_index_or home u None) (sym (t.homes h u) ∙ inside)
   ]
 
@@ -78,8 +78,8 @@ module _ {most : ℕ} (next prev : List ℕ) (home : List (Option ℕ)) (len : L
     | inr inside ↦ let b = node-below h u inside in omega arith
   ]
 
-  gate-ring : (h : ℕ) → has (length home + h) ((length home + h) ∷ slice_index_or ls h []) ≡ true
-  gate-ring h = has-here (length home + h) (length home + h) (slice_index_or ls h []) refl
+  sentinel-ring : (h : ℕ) → has (length home + h) ((length home + h) ∷ slice_index_or ls h []) ≡ true
+  sentinel-ring h = has-here (length home + h) (length home + h) (slice_index_or ls h []) refl
 
   node-ring : (h u : ℕ) → has u (slice_index_or ls h []) ≡ true → has u ((length home + h) ∷ slice_index_or ls h []) ≡ true
   node-ring h u m = has-there u (length home + h) (slice_index_or ls h []) m
@@ -135,17 +135,17 @@ module _ {most : ℕ} (next prev : List ℕ) (home : List (Option ℕ)) (len : L
       }
 
   module _ (head node : ℕ) (head_below : head < length len) (node_below : node < length home) (free : (h : ℕ) → has node (slice_index_or ls h []) ≡ false) where
-    abbrev gate : ℕ
-    gate = length home + head
+    abbrev sentinel : ℕ
+    sentinel = length home + head
 
     abbrev last : ℕ
-    last = slice_index prev gate
+    last = slice_index prev sentinel
 
     abbrev longer : List ℕ
     longer = slice_index_or ls head [] ++ node ∷ []
 
-    last-ring : has last (gate ∷ slice_index_or ls head []) ≡ true
-    last-ring = last-in (slice_index next) (slice_index prev) gate (slice_index_or ls head []) gate (t.path head head_below)
+    last-ring : has last (sentinel ∷ slice_index_or ls head []) ≡ true
+    last-ring = last-in (slice_index next) (slice_index prev) sentinel (slice_index_or ls head []) sentinel (t.path head head_below)
 
     pub last-below : last < length next
     last-below = let b = ring-below head last head_below last-ring in let n = t.nexts in omega arith
@@ -170,12 +170,12 @@ module _ {most : ℕ} (next prev : List ℕ) (home : List (Option ℕ)) (len : L
         ]
 
     abbrev next' : List ℕ
-    next' = slice_set (slice_set next last node) node gate
+    next' = slice_set (slice_set next last node) node sentinel
 
     abbrev prev' : List ℕ
-    prev' = slice_set (slice_set prev node last) gate node
+    prev' = slice_set (slice_set prev node last) sentinel node
 
-    pushed : Pushed (slice_index next) (slice_index prev) (slice_index next') (slice_index prev') node gate
+    pushed : Pushed (slice_index next) (slice_index prev) (slice_index next') (slice_index prev') node sentinel
     pushed =
         let n = t.nexts in
         let p = t.prevs in
@@ -183,12 +183,12 @@ module _ {most : ℕ} (next prev : List ℕ) (home : List (Option ℕ)) (len : L
         let lp = length-set prev node last in
         let off = node-off head last last-ring in
         record {
-          from_last = get_or-set_other (slice_set next last node) node last gate 0 off ∙ get_or-set_same next last node 0 last-below;
-          to_node = get_or-set_other (slice_set prev node last) gate node node 0 (λ e. omega arith) ∙ get_or-set_same prev node last 0 (omega arith);
-          from_node = get_or-set_same (slice_set next last node) node gate 0 (omega arith);
-          to_end = get_or-set_same (slice_set prev node last) gate node 0 (omega arith);
-          ahead = λ u not_last not_node. get_or-set_other (slice_set next last node) node u gate 0 not_node ∙ get_or-set_other next last u node 0 not_last;
-          back = λ v not_node not_gate. get_or-set_other (slice_set prev node last) gate v node 0 not_gate ∙ get_or-set_other prev node v last 0 not_node;
+          from_last = get_or-set_other (slice_set next last node) node last sentinel 0 off ∙ get_or-set_same next last node 0 last-below;
+          to_node = get_or-set_other (slice_set prev node last) sentinel node node 0 (λ e. omega arith) ∙ get_or-set_same prev node last 0 (omega arith);
+          from_node = get_or-set_same (slice_set next last node) node sentinel 0 (omega arith);
+          to_end = get_or-set_same (slice_set prev node last) sentinel node 0 (omega arith);
+          ahead = λ u not_last not_node. get_or-set_other (slice_set next last node) node u sentinel 0 not_node ∙ get_or-set_other next last u node 0 not_last;
+          back = λ v not_node not_sentinel. get_or-set_other (slice_set prev node last) sentinel v node 0 not_sentinel ∙ get_or-set_other prev node v last 0 not_node;
         }
 
     abbrev home' : List (Option ℕ)
@@ -206,17 +206,17 @@ module _ {most : ℕ} (next prev : List ℕ) (home : List (Option ℕ)) (len : L
     push-path : (h : ℕ) → h < length len → IsPath (slice_index next') (slice_index prev') (length home' + h) (slice_index_or ls' h []) (length home' + h)
     push-path h below = elim (cases_eq h head) [
       | inl e ↦
-          path-along (slice_index next') (slice_index prev') gate (length home' + h) longer (slice_index_or ls' h [])
+          path-along (slice_index next') (slice_index prev') sentinel (length home' + h) longer (slice_index_or ls' h [])
           (let l = length-set home node (Some head) in omega arith) (list-here h e)
-          (path-pushed (slice_index next) (slice_index prev) (slice_index next') (slice_index prev') node gate (slice_index_or ls head []) gate
-          pushed (t.path head head_below) (t.once head) (gate-free head head) (gate-free head head) (free head) (λ e. omega arith))
+          (path-pushed (slice_index next) (slice_index prev) (slice_index next') (slice_index prev') node sentinel (slice_index_or ls head []) sentinel
+          pushed (t.path head head_below) (t.once head) (sentinel-free head head) (sentinel-free head head) (free head) (λ e. omega arith))
       | inr ne ↦
           path-along (slice_index next') (slice_index prev') (length home + h) (length home' + h) (slice_index_or ls h []) (slice_index_or ls' h [])
           (let l = length-set home node (Some head) in omega arith) (list-there h ne)
           (path-kept (slice_index next) (slice_index prev) (slice_index next') (slice_index prev') (length home + h) (slice_index_or ls h []) (length home + h) (t.path h below)
           (λ u m. pushed.ahead u (rings-apart h head u last ne m last-ring) (node-off h u m))
-          (λ v m. pushed.back v (node-off h v (node-ring h v m)) (rings-apart h head v gate ne (node-ring h v m) (gate-ring head)))
-          (pushed.back (length home + h) (λ e. omega arith) (rings-apart h head (length home + h) gate ne (gate-ring h) (gate-ring head))))
+          (λ v m. pushed.back v (node-off h v (node-ring h v m)) (rings-apart h head v sentinel ne (node-ring h v m) (sentinel-ring head)))
+          (pushed.back (length home + h) (λ e. omega arith) (rings-apart h head (length home + h) sentinel ne (sentinel-ring h) (sentinel-ring head))))
     ]
 
     push-homes : (h x : ℕ) → has x (slice_index_or ls' h []) ≡ is_at h (slice_index_or home' x None)
@@ -254,8 +254,8 @@ module _ {most : ℕ} (next prev : List ℕ) (home : List (Option ℕ)) (len : L
 
     pub tied-pushed : Tied most next' prev' home' (slice_set len head (slice_index len head + 1)) ls'
     tied-pushed =
-        let nexts = length-set (slice_set next last node) node gate ∙ length-set next last node in
-        let prevs = length-set (slice_set prev node last) gate node ∙ length-set prev node last in
+        let nexts = length-set (slice_set next last node) node sentinel ∙ length-set next last node in
+        let prevs = length-set (slice_set prev node last) sentinel node ∙ length-set prev node last in
         still-tied next' prev' home' (slice_set len head (slice_index len head + 1)) ls'
         (record { nexts = nexts; prevs = prevs; homes = length-set home node (Some head); lens = length-set len head (slice_index len head + 1); lists = length-set ls head longer })
         push-path push-lens push-homes push-once
@@ -326,14 +326,14 @@ module _ {most : ℕ} (next prev : List ℕ) (home : List (Option ℕ)) (len : L
           path-along (slice_index next-) (slice_index prev-) (length home + head) (length home- + h) (without node (slice_index_or ls head [])) (slice_index_or ls- h [])
           (let l = length-set home node None in omega arith) (list-short h e)
           (path-passed (slice_index next) (slice_index prev) (slice_index next-) (slice_index prev-) node (length home + head) (slice_index_or ls head []) (length home + head)
-          passed (t.path head head-known) (t.once head) (gate-free head head) (gate-free head head) linked)
+          passed (t.path head head-known) (t.once head) (sentinel-free head head) (sentinel-free head head) linked)
       | inr ne ↦
           path-along (slice_index next-) (slice_index prev-) (length home + h) (length home- + h) (slice_index_or ls h []) (slice_index_or ls- h [])
           (let l = length-set home node None in omega arith) (list-same h ne)
           (path-kept (slice_index next) (slice_index prev) (slice_index next-) (slice_index prev-) (length home + h) (slice_index_or ls h []) (length home + h) (t.path h below)
           (λ u m. passed.ahead u (rings-apart h head u before ne m before-ring))
           (λ v m. passed.back v (rings-apart h head v after ne (node-ring h v m) after-ring))
-          (passed.back (length home + h) (rings-apart h head (length home + h) after ne (gate-ring h) after-ring)))
+          (passed.back (length home + h) (rings-apart h head (length home + h) after ne (sentinel-ring h) after-ring)))
     ]
 
     pass-homes : (h x : ℕ) → has x (slice_index_or ls- h []) ≡ is_at h (slice_index_or home- x None)

@@ -1,4 +1,4 @@
--- How vectors of links stand for lists: each list is a ring with the gate of its head.
+-- How vectors of links stand for lists: each list is a ring with the sentinel of its head.
 use Rattle.std.specs.Prelude.{◌≡◌, ℕ, zero, suc, ◌+◌, ◌<◌, ◌≤◌, ◌==◌, nat_lt, if◌then◌else◌, List, [], ◌∷◌, length, map, Option, Some, None, slice_index, slice_index_or}
 use Rattle.std.specs.List.{range_with_len}
 use Rattle.ih_links.specs.Lists.{has, is_at, IsOnce}
@@ -27,12 +27,12 @@ abbrev pub IsPath : (ℕ → ℕ) → (ℕ → ℕ) → ℕ → List ℕ → ℕ
 IsPath f g a [] b = (f a ≡ b) × (g b ≡ a)
 IsPath f g a (x ∷ xs) b = (f a ≡ x) × ((g x ≡ a) × IsPath f g x xs b)
 
--- the node at a place: the places below n are the nodes', those from n on are the gates'
+-- the node at a place: the places below n are the nodes', those from n on are the sentinels'
 abbrev pub node_in : ℕ → ℕ → Option ℕ
 node_in n place = if nat_lt place n then Some place else None
 
--- The links are those of the lists: nodes and gates have one place each, each list is a ring through its head's gate,
--- and each node's home is the head of its list. No place is above the greatest number.
+-- The links are those of the lists: nodes and sentinels have one place each, each list is a ring through its head's
+-- sentinel, and each node's home is the head of its list. No place is above the greatest number.
 pub record Tied (most : ℕ) (next prev : List ℕ) (home : List (Option ℕ)) (len : List ℕ) (lists : List (List ℕ)) : Type 0 where
   pub nexts : length next ≡ length home + length len
   pub prevs : length prev ≡ length home + length len

@@ -1,5 +1,5 @@
-//! Lists of numbered nodes in four vectors, changed in place. Each head has a gate, a place after those of the nodes.
-//! Its list is a ring through that gate, which it begins and ends at: no list has an end to be told apart.
+//! Lists of numbered nodes in four vectors, changed in place. Each head has a sentinel, which is a place after those of
+//! the nodes. Its list is a ring through that sentinel: no list has an end to be told apart.
 
 ghost use Rattle.std.specs.Prelude.{◌≡◌, ℕ, ◌+◌, ◌^◌, ◌<◌, ◌≤◌, true, false, ◌++◌, ◌∷◌, [], length, map, replicate};
 ghost use Rattle.std.specs.Prelude.{slice_set, IfOk, OnOk};
@@ -15,7 +15,7 @@ use std::marker::Model;
 /// numbers.
 #[derive(Drop)]
 pub struct Links<W: Width = u32> {
-    // What follows each place on its ring, and what it follows: the nodes' places first, then the gates'.
+    // What follows each place on its ring, and what it follows: the nodes' places first, then the sentinels'.
     next: Vec<W>,
     prev: Vec<W>,
     // Each node's head, and where it has none the greatest number: no head has that where there are nodes.
@@ -115,15 +115,15 @@ impl<W: Width> Links<W> {
         })
     }
 
-    // The place of a head's gate.
-    fn gate(&self, head: u32) -> u32
+    // The place of a head's sentinel.
+    fn sentinel(&self, head: u32) -> u32
         requires { head < length self.now.lists }
         ensures { result ≡ self.now.nodes + head }
     {
         self.home.len() as u32 + head
     }
 
-    // The node at a place, and none at a gate.
+    // The node at a place, and none at a sentinel.
     fn node_at(&self, place: u32) -> Option<u32>
         ensures { result ≡ node_in self.now.nodes place }
     {
@@ -142,13 +142,13 @@ impl<W: Width> Links<W> {
         ensures lists { self.new.lists ≡ slice_set self.old.lists head (list_of self.old head ++ node ∷ []) }
         ensures nodes { self.new.nodes ≡ self.old.nodes }
     {
-        let gate = self.gate(head);
-        let last = self.prev[gate as usize];
+        let sentinel = self.sentinel(head);
+        let last = self.prev[sentinel as usize];
         let place = W::of(node);
         self.next[last.get() as usize] = place;
-        self.next[node as usize] = W::of(gate);
+        self.next[node as usize] = W::of(sentinel);
         self.prev[node as usize] = last;
-        self.prev[gate as usize] = place;
+        self.prev[sentinel as usize] = place;
         self.home[node as usize] = W::of(head);
         let count = self.len[head as usize].get();
         self.len[head as usize] = W::of(count + 1);
@@ -177,7 +177,7 @@ impl<W: Width> Links<W> {
         ensures first { result ≡ first_of (list_of self.now head) }
         ensures nodes { AreNodes self.now.nodes (list_of self.now head) }
     {
-        self.node_at(self.next[self.gate(head) as usize].get())
+        self.node_at(self.next[self.sentinel(head) as usize].get())
     }
 
     /// The node behind a node in its list, and none behind the last or where the node is in no list.

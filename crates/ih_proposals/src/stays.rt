@@ -43,7 +43,7 @@ pub fn draw_day(inst: &Instance, words: &mut RandomWords, patient_no: PatientNo)
     Some(Day(patient.surgery_release_day + words.below(most)))
 }
 
-/// The number so many places after another one of `count`, cyclically.
+/// The number that comes `further` places after `first` among `count` numbers, cyclically.
 #[inline(always)]
 pub fn cyclic(first: u32, further: u32, count: u32) -> u32
     requires first { first < count }
@@ -67,7 +67,7 @@ fn is_in(stay: Option<Placement>, day: Day, room: RoomNo) -> bool {
 }
 
 /// The first room that the patient fits into from a day on, beside those who are there once the attempt is made. Rooms
-/// are tried from `first` on, then from 0. Not the room that the patient has already, if it comes on that day.
+/// are tried from `first` on, then from 0. If the patient comes on that day already, its own room isn't tried.
 pub fn first_fit(
     inst: &Instance,
     ledgers: &Ledgers<'_>,

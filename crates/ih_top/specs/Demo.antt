@@ -1,4 +1,4 @@
--- How a call of demo ends: what it had to say, by its status. It touches no file.
+-- How a call of demo ends: what it had to say, by its status. It reads and writes no file.
 use Rattle.std.specs.Prelude.{◌≡◌, ℕ, List, length, Option, Some, None, Ok}
 use Rattle.ih_fill.specs.Fill.{fill}
 use Rattle.ih_plan.specs.Timetable.{empty}

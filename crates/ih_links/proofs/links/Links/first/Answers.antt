@@ -9,6 +9,6 @@ returns-clause-first g c =
     let f = g.W.Width.number in
     let raw = map f c.self.inside.home.items in
     let seen = numbers-seen f _ c.self.inside.home.items c.args.self.now c.self.view_is in
-    let read = number-read f c.self.inside.next.items c.gate.result c.index.result.now c.get.result c.index.ensures c.get.ensures.number
-    ∙ ap (λ k. slice_index_or (map f c.self.inside.next.items) k c.get.result) c.gate.ensures in
+    let read = number-read f c.self.inside.next.items c.sentinel.result c.index.result.now c.get.result c.index.ensures c.get.ensures.number
+    ∙ ap (λ k. slice_index_or (map f c.self.inside.next.items) k c.get.result) c.sentinel.ensures in
     c.node_at.ensures ∙ first-answer raw c.self.invariant seen c.args.head c.get.result c.requires.head read

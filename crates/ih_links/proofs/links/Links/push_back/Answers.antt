@@ -8,19 +8,19 @@ index_mut-requires g c =
     let f = g.W.Width.number in
     let raw = map f c.self.inside.home.items in
     let seen = numbers-seen f _ c.self.inside.home.items c.args.self.now c.self.view_is in
-    let last = number-read f c.self.inside.prev.items c.gate-gate.result c.index-last.result.now c.get.result c.index-last.ensures c.get.ensures.number in
+    let last = number-read f c.self.inside.prev.items c.sentinel-sentinel.result c.index-last.result.now c.get.result c.index-last.ensures c.get.ensures.number in
     rw c.self.inside.next.ok.0
     (number-below f c.self.inside.next.items c.get.result
-    (push-last raw c.self.invariant seen c.args.head c.args.node c.gate-gate.result c.get.result c.requires.head c.requires.node c.requires.free c.gate-gate.ensures last))
+    (push-last raw c.self.invariant seen c.args.head c.args.node c.sentinel-sentinel.result c.get.result c.requires.head c.requires.node c.requires.free c.sentinel-sentinel.ensures last))
 
 pub of-requires-3 : goal.of-requires-3
 of-requires-3 g c =
     let f = g.W.Width.number in
     let raw = map f c.self.inside.home.items in
     let seen = numbers-seen f _ c.self.inside.home.items c.args.self.now c.self.view_is in
-    let last = number-read f c.self.inside.prev.items c.gate-gate.result c.index-last.result.now c.get.result c.index-last.ensures c.get.ensures.number in
+    let last = number-read f c.self.inside.prev.items c.sentinel-sentinel.result c.index-last.result.now c.get.result c.index-last.ensures c.get.ensures.number in
     let count = number-read f c.self.inside.len.items c.args.head c.index.result.now c.get-count.result c.index.ensures c.get-count.ensures.number in
-    push-room raw c.self.invariant seen c.args.head c.args.node c.gate-gate.result c.get.result c.requires.head c.requires.node c.requires.free c.gate-gate.ensures last c.get-count.result count
+    push-room raw c.self.invariant seen c.args.head c.args.node c.sentinel-sentinel.result c.get.result c.requires.head c.requires.node c.requires.free c.sentinel-sentinel.ensures last c.get-count.result count
 
 pub overflow_add-count : goal.overflow_add-count
 overflow_add-count g c =
@@ -34,14 +34,14 @@ invariant_of-self g c =
     let inside = c.self.inside in
     let raw = map f inside.home.items in
     let seen = numbers-seen f _ inside.home.items c.args.self.now c.self.view_is in
-    let last = number-read f inside.prev.items c.gate-gate.result c.index-last.result.now c.get.result c.index-last.ensures c.get.ensures.number in
+    let last = number-read f inside.prev.items c.sentinel-sentinel.result c.index-last.result.now c.get.result c.index-last.ensures c.get.ensures.number in
     let count = number-read f inside.len.items c.args.head c.index.result.now c.get-count.result c.index.ensures c.get-count.ensures.number in
-    let next = number-set_twice f inside.next.items c.get.result c.of-place.result c.args.node c.args.node c.of.result c.gate-gate.result c.of-place.ensures c.of.ensures in
-    let prev = number-set_twice f inside.prev.items c.args.node c.index-last.result.now c.get.result c.gate-gate.result c.of-place.result c.args.node (sym c.get.ensures.number) c.of-place.ensures in
+    let next = number-set_twice f inside.next.items c.get.result c.of-place.result c.args.node c.args.node c.of.result c.sentinel-sentinel.result c.of-place.ensures c.of.ensures in
+    let prev = number-set_twice f inside.prev.items c.args.node c.index-last.result.now c.get.result c.sentinel-sentinel.result c.of-place.result c.args.node (sym c.get.ensures.number) c.of-place.ensures in
     let home = number-set f inside.home.items c.args.node c.of-2.result c.args.head c.of-2.ensures in
     let len = number-set f inside.len.items c.args.head c.of-3.result (c.get-count.result + 1) c.of-3.ensures in
     rw (next, prev, home, len)
-    (push-tied raw c.self.invariant seen c.args.head c.args.node c.gate-gate.result c.get.result c.requires.head c.requires.node c.requires.free c.gate-gate.ensures last c.get-count.result count)
+    (push-tied raw c.self.invariant seen c.args.head c.args.node c.sentinel-sentinel.result c.get.result c.requires.head c.requires.node c.requires.free c.sentinel-sentinel.ensures last c.get-count.result count)
 
 pub returns-clause-lists : goal.returns-clause-lists
 returns-clause-lists g c =
@@ -49,10 +49,10 @@ returns-clause-lists g c =
     let inside = c.self.inside in
     let raw = map f inside.home.items in
     let seen = numbers-seen f _ inside.home.items c.args.self.now c.self.view_is in
-    let last = number-read f inside.prev.items c.gate-gate.result c.index-last.result.now c.get.result c.index-last.ensures c.get.ensures.number in
+    let last = number-read f inside.prev.items c.sentinel-sentinel.result c.index-last.result.now c.get.result c.index-last.ensures c.get.ensures.number in
     let count = number-read f inside.len.items c.args.head c.index.result.now c.get-count.result c.index.ensures c.get-count.ensures.number in
-    let next = number-set_twice f inside.next.items c.get.result c.of-place.result c.args.node c.args.node c.of.result c.gate-gate.result c.of-place.ensures c.of.ensures in
+    let next = number-set_twice f inside.next.items c.get.result c.of-place.result c.args.node c.args.node c.of.result c.sentinel-sentinel.result c.of-place.ensures c.of.ensures in
     let home = number-set f inside.home.items c.args.node c.of-2.result c.args.head c.of-2.ensures in
     let len = number-set f inside.len.items c.args.head c.of-3.result (c.get-count.result + 1) c.of-3.ensures in
     rw (next, home, len)
-    (push-lists raw c.self.invariant seen c.args.head c.args.node c.gate-gate.result c.get.result c.requires.head c.requires.node c.requires.free c.gate-gate.ensures last c.get-count.result count)
+    (push-lists raw c.self.invariant seen c.args.head c.args.node c.sentinel-sentinel.result c.get.result c.requires.head c.requires.node c.requires.free c.sentinel-sentinel.ensures last c.get-count.result count)
