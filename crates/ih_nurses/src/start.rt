@@ -12,14 +12,14 @@ use ih_plan::end_from;
 use ih_tables::{Instance, NurseNo, Shift};
 use std::alloc::{AllocError, Global};
 
-// The load 0 at a place of the table, beside the nurse's maximum.
-fn no_load(inst: &Instance, place: usize) -> NurseLoad
-    requires { place < nurse_count inst.now.draft * shift_count inst.now.draft }
-    ensures { result ≡ free_load inst.now.draft place }
+// The load 0 at an index of the table, beside the nurse's maximum.
+fn no_load(inst: &Instance, index: usize) -> NurseLoad
+    requires { index < nurse_count inst.now.draft * shift_count inst.now.draft }
+    ensures { result ≡ free_load inst.now.draft index }
 {
     let shifts = inst.shifts() as usize;
-    let nurse = NurseNo((place / shifts) as u32);
-    let shift = Shift((place % shifts) as u32);
+    let nurse = NurseNo((index / shifts) as u32);
+    let shift = Shift((index % shifts) as u32);
     NurseLoad {
         work: 0,
         most: inst.works(nurse, shift).unwrap_or(u32::MAX),
@@ -32,8 +32,8 @@ pub fn no_loads(alloc: Global, inst: &Instance) -> Result<Vec<NurseLoad>, AllocE
 {
     let places = inst.nurses() as usize * inst.shifts() as usize;
     let mut loads = Vec::with_capacity(alloc, places)?;
-    for place in 0..places {
-        loads.push(no_load(inst, place))?;
+    for index in 0..places {
+        loads.push(no_load(inst, index))?;
     }
     Ok(loads)
 }

@@ -94,7 +94,7 @@ impl Attempt {
         self.push(mv);
     }
 
-    /// The move at a place, where all are moves of the instance.
+    /// The move at an index, where all are moves of the instance.
     pub fn at(&self, _inst: &Instance, index: usize) -> Move
         requires place { index < length self.now }
         requires moves { AreMoves _inst.now.draft self.now }

@@ -7,7 +7,7 @@ ghost use Rattle.ih_tables.specs.Works.{working};
 use crate::words::RandomWords;
 use ih_tables::{Instance, NurseNo, Shift};
 
-/// The nurse at a place in the list of those who work a shift.
+/// The nurse at an index of the list of those who work a shift.
 #[inline(always)]
 pub fn working_at(inst: &Instance, shift: Shift, index: usize) -> NurseNo
     requires shift { shift.0 < shift_count inst.now.draft }

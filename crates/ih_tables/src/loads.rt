@@ -31,7 +31,7 @@ pub fn max_load(draft: &Draft, nurse: usize, shift: usize) -> Option<u32>
     )
 }
 
-// The maximum load at a place of the table.
+// The maximum load at an index of the table.
 fn load_at(draft: &Draft, index: usize) -> Option<u32>
     requires valid { IsValid draft.now }
     requires inside { index < nurse_count draft.now * shift_count draft.now }

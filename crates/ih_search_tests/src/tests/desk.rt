@@ -51,7 +51,7 @@ fn offer<'a, R: Wait>(
     buffer: &mut Buffer,
     options: &Options,
     mv: &Move,
-    number: u32,
+    attempt_no: u32,
 ) -> (DeskSeat<'a, Entry>, Option<Verdict>)
     requires own { IsSeatAt desk.now seat }
     requires left { 2 ≤ turns_left seat }
@@ -65,7 +65,7 @@ fn offer<'a, R: Wait>(
     buffer.set_from(0);
     let seat = desk.look(rt, seat, buffer);
     let worker = seat.number();
-    let offer = replica.offer(mv, number);
+    let offer = replica.offer(mv, attempt_no);
     if may_offer(buffer, worker, options, offer) {
         let (seat, verdict) = desk.offer(rt, seat, offer);
         (seat, Some(verdict))

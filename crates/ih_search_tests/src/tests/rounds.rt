@@ -37,14 +37,14 @@ fn is_retried(options: &Options, entry: &Entry) -> bool
 }
 
 // Whether a worker with this last entry isn't done, and its next move has this number.
-fn is_next(options: &Options, last: &Option<Entry>, number: u32) -> bool
+fn is_next(options: &Options, last: &Option<Entry>, attempt_no: u32) -> bool
     ensures { let before = option_map tried last.now in IsTrue result
-        → (is_done_after options.now before ≡ false) × ((try_after options.now before).number ≡ number) }
+        → (is_done_after options.now before ≡ false) × ((try_after options.now before).number ≡ attempt_no) }
 {
     match last {
-        None => options.moves > 0 && number == 0,
-        Some(last) if is_retried(options, last) => options.moves > 0 && number == last.number,
-        Some(last) => number > 0 && last.number == number - 1 && number < options.moves,
+        None => options.moves > 0 && attempt_no == 0,
+        Some(last) if is_retried(options, last) => options.moves > 0 && attempt_no == last.number,
+        Some(last) => attempt_no > 0 && last.number == attempt_no - 1 && attempt_no < options.moves,
     }
 }
 
@@ -80,7 +80,7 @@ pub(crate) fn offer(
     replica: &mut Replica<'_>,
     options: &Options,
     mv: &Move,
-    number: u32,
+    attempt_no: u32,
 ) -> Option<Verdict>
     requires replica { IsReplicaIn book.old.base book.old.entries replica.old }
     requires options { options.now ≡ book.old.base.options }
@@ -90,7 +90,7 @@ pub(crate) fn offer(
     ensures others { (r : ReplicaState) → IsReplicaIn book.old.base book.old.entries r
         → IsReplicaIn book.old.base book.new.entries r }
 {
-    let offer = replica.offer(mv, number);
+    let offer = replica.offer(mv, attempt_no);
     if may_come(book.entries(), options, offer) {
         Some(book.commit(offer))
     } else {
@@ -131,14 +131,14 @@ pub(crate) fn is_priced(
     book: &Book<'_>,
     replica: &mut Replica<'_>,
     mv: &Move,
-    number: u32,
+    attempt_no: u32,
     price: &Priced,
 ) -> bool
     requires replica { IsReplicaIn book.now.base book.now.entries replica.old }
     requires move_in { IsMoveOf book.now.base.instance mv.now }
     ensures { IsReplicaIn book.now.base book.now.entries replica.new }
 {
-    let offer = replica.price(mv, number);
+    let offer = replica.price(mv, attempt_no);
     has_price(inst, offer, price)
 }
 

@@ -5,5 +5,5 @@ use Rattle.ih_nurses.specs.Loads.{free_load}
 use Rattle.ih_nurses.proofs.start.no_loads.Given as goal
 
 -- the places before this one are made
-abbrev pub invariant-loop-place : goal.invariant-loop-place
-invariant-loop-place l = l.loads.items ≡ map (free_load l.inst.draft) (range_with_len 0 l.place)
+abbrev pub invariant-loop-index : goal.invariant-loop-index
+invariant-loop-index l = l.loads.items ≡ map (free_load l.inst.draft) (range_with_len 0 l.index)

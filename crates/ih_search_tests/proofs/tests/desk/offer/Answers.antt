@@ -32,7 +32,7 @@ offer-seat-requires g c =
         own = looked.own;
         left = omega (arith, used, had);
         worker = may.1 ∙ c.number-worker.ensures;
-        right = offered-right b H r stands c.args.number _ _ c.offer-offer.ensures.offer c.offer-offer.ensures.right (
+        right = offered-right b H r stands c.args.attempt_no _ _ c.offer-offer.ensures.offer c.offer-offer.ensures.right (
           subst (λ (s : Options). o.worker < s.workers) c.requires.options may.2,
           subst (λ (s : Options). next_number s H o.worker ≡ Some o.number) c.requires.options
               (subst (λ (G : List Tried). next_number c.args.options.now G o.worker ≡ Some o.number) whole may.3),

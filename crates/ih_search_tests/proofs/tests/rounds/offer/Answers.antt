@@ -11,7 +11,7 @@ use Rattle.ih_search_tests.proofs.tests.rounds.offer.Goals as goal
 pub may_come-requires : goal.may_come-requires
 may_come-requires c =
     let v = c.args.book.now in
-    let few = offered-seen v.base v.entries c.args.replica.now c.requires.replica c.args.number _ _ c.offer-offer.ensures.offer in
+    let few = offered-seen v.base v.entries c.args.replica.now c.requires.replica c.args.attempt_no _ _ c.offer-offer.ensures.offer in
     let long = length-map c.entries.result.now tried in
     let same = ap length c.entries.ensures.entries in
     omega (arith, few, long, same)
@@ -21,7 +21,7 @@ commit-requires c =
     let v = c.args.book.now in
     let o = c.offer-offer.result.now in
     let may = c.may_come.ensures c.if-may_come.true in
-    offered-right v.base v.entries c.args.replica.now c.requires.replica c.args.number _ _ c.offer-offer.ensures.offer c.offer-offer.ensures.right (
+    offered-right v.base v.entries c.args.replica.now c.requires.replica c.args.attempt_no _ _ c.offer-offer.ensures.offer c.offer-offer.ensures.right (
       subst (λ (s : Options). o.worker < s.workers) c.requires.options may.0,
       subst (λ (s : Options). next_number s v.entries o.worker ≡ Some o.number) c.requires.options
           (subst (λ (H : List Tried). next_number c.args.options.now H o.worker ≡ Some o.number) c.entries.ensures.entries may.1),
