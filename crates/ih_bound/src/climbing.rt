@@ -51,7 +51,7 @@ pub struct Climb {
 }
 
 impl Climb {
-    /// At the foot.
+    /// At the foot: the prices to begin with, and no round yet.
     pub fn new(
         alloc: Global,
         inst: &Instance,
@@ -102,9 +102,12 @@ impl Climb {
         }
     }
 
-    // Goes back to the best prices, with steps so long.
-    fn go_back(&mut self, length: u64) {
-        self.pace = Pace { length, idle: 0 };
+    // Goes back to the best prices, with steps of that length.
+    fn go_back(&mut self, step_length: u64) {
+        self.pace = Pace {
+            length: step_length,
+            idle: 0,
+        };
         copy(&self.best_prices, &mut self.prices);
     }
 

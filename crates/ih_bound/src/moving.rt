@@ -134,7 +134,7 @@ fn copy_list(from: &[u64], to: &mut [u64]) {
 }
 
 impl Directions {
-    /// None moves.
+    /// Directions in which no price moves.
     pub fn new(alloc: Global, inst: &Instance) -> Result<Directions, AllocError> {
         let days = inst.days() as usize;
         Ok(Directions {
@@ -184,7 +184,7 @@ impl Directions {
         }
     }
 
-    /// Turns those of workload.
+    /// Turns the directions of the prices of workload.
     pub fn turn_work(&mut self, inst: &Instance, rates: &Rates, demand: &Demand, prices: &Prices) {
         for n in 0..inst.nurses() {
             for k in 0..inst.shifts() {
@@ -223,7 +223,7 @@ impl Directions {
         sum
     }
 
-    /// The squares of those of workload, summed.
+    /// The squares of the directions of workload, summed.
     pub fn size_of_work(&self) -> u64 {
         let mut sum: u64 = 0;
         for x in self.work.as_slice() {

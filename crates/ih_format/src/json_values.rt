@@ -90,7 +90,7 @@ pub fn list_of(value: &Value, low: usize, high: usize, at: Place) -> Result<&[Va
     Ok(values)
 }
 
-/// The first n items of a list that has at least so many; the others are ignored, whatever they are.
+/// The first `count` items of a list that has at least so many. The others are ignored, whatever they are.
 #[tactic(auto, using(crate::proofs::Items::first_is))]
 pub fn first_items(value: &Value, count: usize, at: Place) -> Result<&[Value], Refusal>
     ensures few { IfOk result (λ s. length s.now ≡ count) }

@@ -17,7 +17,7 @@ use ih_tables::{Instance, Refusal};
 use std::alloc::Global;
 use std::rt::Files;
 
-// The older solution is refused.
+// What is said where the older solution is refused: its file, and the first fault.
 fn older_refused(alloc: Global, name: &str, refusal: Refusal) -> Answer
     ensures { IsSaid (StartRefused refusal) (older_refused_text name.now refusal) result }
 {
