@@ -1,2 +1,4 @@
+pub mod Arrivals
 pub mod Moments
 pub mod Pairs
+pub mod RoomDays

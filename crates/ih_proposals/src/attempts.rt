@@ -23,7 +23,7 @@ impl Model for Attempt {
 }
 
 impl Attempt {
-    ghost use Rattle.std.specs.Prelude.{◌≡◌, ◌==◌, ◌<◌, ◌≤◌, ◌++◌, ◌∷◌, [], length};
+    ghost use Rattle.std.specs.Prelude.{◌≡◌, ◌==◌, ◌<◌, ◌≤◌, ◌++◌, ◌∷◌, [], length, IfSome};
     ghost use Rattle.ih_plan.specs.{Expand.IsMoveOf, Series.AreMoves};
 
     /// No moves yet.
@@ -92,6 +92,17 @@ impl Attempt {
             return;
         }
         self.push(mv);
+    }
+
+    /// The same, where one was found.
+    pub fn add_found(&mut self, _inst: &Instance, found: Option<Move>)
+        requires moves { AreMoves _inst.now.draft self.old }
+        requires one { IfSome found (IsMoveOf _inst.now.draft) }
+        ensures { AreMoves _inst.now.draft self.new }
+    {
+        if let Some(mv) = found {
+            self.add(_inst, mv);
+        }
     }
 
     /// The move at an index, where all are moves of the instance.

@@ -1,46 +1,33 @@
 //! Whether a room has a bed for a patient, beside those who are there when an attempt is made.
 
-ghost use Rattle.std.specs.Prelude.{◌≡◌, ◌<◌, length, IfSome};
-ghost use Rattle.ih_tables.specs.Sizes.{patient_count, person_count, room_count};
-ghost use Rattle.ih_plan.specs.{Timetable.Timetable, Timetable.IsPlacement, Expand.IsMoveOf, Series.AreMoves};
-ghost use Rattle.ih_roomdays.specs.{Ledger.IsLedgerOf, RoomLists.persons_at};
+ghost use Rattle.std.specs.Prelude.{◌<◌, IfSome};
+ghost use Rattle.ih_tables.specs.Sizes.{patient_count};
+ghost use Rattle.ih_plan.specs.{Timetable.IsPlacement, Expand.IsMoveOf, Series.AreMoves};
+ghost use Rattle.ih_proposals.specs.RoomDays.{IsRoomDay};
 
 use crate::attempts::Attempt;
-use crate::looks::rooms_of;
-use ih_costs::Ledgers;
+use crate::room_days::{RoomDay, person_at};
+use crate::situation::Situation;
 use ih_plan::{Members, Move, Placement, end_of};
-use ih_roomdays::RoomDays;
-use ih_tables::{Day, Instance, PatientNo, PersonNo, RoomNo};
+use ih_tables::{Day, Instance, PatientNo, PersonNo};
 use ih_validate::is_incompatible;
 
-/// The person at an index of the list of those in a room on a day.
-#[inline(always)]
-pub fn person_at(inst: &Instance, rooms: &RoomDays, room: RoomNo, day: Day, index: u32) -> PersonNo
-    requires stands { (P : Timetable) × IsLedgerOf inst.now.draft P rooms.now }
-    requires room { room.0 < room_count inst.now.draft }
-    requires day { day.0 < inst.now.draft.days }
-    requires place { index < length (persons_at rooms.now room.0 day.0) }
-    ensures { result.0 < person_count inst.now.draft }
-{
-    rooms.member(room, day, index)
-}
-
 // Whether a placement of the patient has the room on the day.
-fn is_there(inst: &Instance, patient: PatientNo, at: Placement, room: RoomNo, day: Day) -> bool
+fn is_there(inst: &Instance, patient: PatientNo, at: Placement, there: RoomDay) -> bool
     requires patient { patient.0 < patient_count inst.now.draft }
     requires placement { IsPlacement inst.now.draft at }
 {
-    at.room == room && at.day.0 <= day.0 && day.0 < end_of(inst, patient, at)
+    at.room == there.room && at.day.0 <= there.day.0 && there.day.0 < end_of(inst, patient, at)
 }
 
 // The patient whom a move brings to the room on the day, where it does.
-fn arrival(inst: &Instance, mv: Move, room: RoomNo, day: Day) -> Option<PatientNo>
+fn brought(inst: &Instance, mv: Move, there: RoomDay) -> Option<PatientNo>
     requires { IsMoveOf inst.now.draft mv }
     ensures { IfSome result (λ p. p.0 < patient_count inst.now.draft) }
 {
     match mv {
         Move::Place(p, at) => {
-            if is_there(inst, p, at, room, day) {
+            if is_there(inst, p, at, there) {
                 Some(p)
             } else {
                 None
@@ -53,21 +40,19 @@ fn arrival(inst: &Instance, mv: Move, room: RoomNo, day: Day) -> Option<PatientN
 // How many beds of so many are left beside the patients whom the attempt brings to the room on the day; none where one
 // of them has another gender than the patient.
 fn beds_beside(
-    inst: &Instance,
-    rooms: &RoomDays,
+    here: &Situation<'_>,
     patient: PatientNo,
-    room: RoomNo,
-    day: Day,
+    there: RoomDay,
     attempt: &Attempt,
     beds: u32,
 ) -> u32
-    requires stands { (P : Timetable) × IsLedgerOf inst.now.draft P rooms.now }
-    requires patient { patient.0 < patient_count inst.now.draft }
-    requires moves { AreMoves inst.now.draft attempt.now }
+    requires patient { patient.0 < patient_count here.now.inst.now.draft }
+    requires moves { AreMoves here.now.inst.now.draft attempt.now }
 {
+    let rooms = here.room_days();
     let mut left = beds;
     for i in 0..attempt.len() {
-        if let Some(other) = arrival(inst, attempt.at(inst, i), room, day) {
+        if let Some(other) = brought(here.inst, attempt.at(here.inst, i), there) {
             if left == 0 || !rooms.same_gender(PersonNo(patient.0), PersonNo(other.0)) {
                 return 0;
             }
@@ -79,23 +64,15 @@ fn beds_beside(
 
 // Whether the room has a bed for the patient on the day once the attempt is made, which moves the patient too or
 // doesn't yet: those who are there have the patient's gender.
-fn has_bed(
-    inst: &Instance,
-    rooms: &RoomDays,
-    patient: PatientNo,
-    room: RoomNo,
-    day: Day,
-    attempt: &Attempt,
-) -> bool
-    requires stands { (P : Timetable) × IsLedgerOf inst.now.draft P rooms.now }
-    requires patient { patient.0 < patient_count inst.now.draft }
-    requires room { room.0 < room_count inst.now.draft }
-    requires day { day.0 < inst.now.draft.days }
-    requires moves { AreMoves inst.now.draft attempt.now }
+fn has_bed(here: &Situation<'_>, patient: PatientNo, there: RoomDay, attempt: &Attempt) -> bool
+    requires patient { patient.0 < patient_count here.now.inst.now.draft }
+    requires there { IsRoomDay here.now.inst.now.draft there }
+    requires moves { AreMoves here.now.inst.now.draft attempt.now }
 {
-    let mut beds = inst.room(room).capacity;
-    for i in 0..rooms.count(room, day) {
-        let x = person_at(inst, rooms, room, day, i);
+    let rooms = here.room_days();
+    let mut beds = here.inst.room(there.room).capacity;
+    for i in 0..rooms.count(there.room, there.day) {
+        let x = person_at(here.inst, rooms, there, i);
         if x.0 != patient.0 && !attempt.moves_person(x) {
             if beds == 0 || !rooms.same_gender(PersonNo(patient.0), x) {
                 return false;
@@ -103,35 +80,25 @@ fn has_bed(
             beds -= 1;
         }
     }
-    beds_beside(inst, rooms, patient, room, day, attempt, beds) > 0
+    beds_beside(here, patient, there, attempt, beds) > 0
 }
 
 /// Whether the placement's room suits the patient and has a bed for the patient on each of its days once the attempt is
 /// made, which doesn't place the patient yet.
-pub fn fits(
-    inst: &Instance,
-    ledgers: &Ledgers<'_>,
-    patient: PatientNo,
-    at: Placement,
-    attempt: &Attempt,
-) -> bool
-    requires instance { ledgers.now.instance ≡ inst.now.draft }
-    requires patient { patient.0 < patient_count inst.now.draft }
-    requires placement { IsPlacement inst.now.draft at }
-    requires moves { AreMoves inst.now.draft attempt.now }
+pub fn fits(here: &Situation<'_>, patient: PatientNo, at: Placement, attempt: &Attempt) -> bool
+    requires patient { patient.0 < patient_count here.now.inst.now.draft }
+    requires placement { IsPlacement here.now.inst.now.draft at }
+    requires moves { AreMoves here.now.inst.now.draft attempt.now }
 {
-    if is_incompatible(inst.patient(patient), at.room) {
+    if is_incompatible(here.inst.patient(patient), at.room) {
         return false;
     }
-    for d in at.day.0..end_of(inst, patient, at) {
-        if !has_bed(
-            inst,
-            rooms_of(inst, ledgers),
-            patient,
-            at.room,
-            Day(d),
-            attempt,
-        ) {
+    for d in at.day.0..end_of(here.inst, patient, at) {
+        let there = RoomDay {
+            room: at.room,
+            day: Day(d),
+        };
+        if !has_bed(here, patient, there, attempt) {
             return false;
         }
     }

@@ -1,115 +1,37 @@
 //! A patient in a room and from a day on by random words, whatever is there: who has to leave gets another place.
 
-ghost use Rattle.std.specs.Prelude.{◌≡◌, ◌<◌, ◌≤◌, IfSome};
-ghost use Rattle.ih_tables.specs.Sizes.{patient_count, room_count};
+ghost use Rattle.std.specs.Prelude.{◌<◌, IfSome};
+ghost use Rattle.ih_tables.specs.Sizes.{patient_count};
 ghost use Rattle.ih_plan.specs.{Timetable.IsPlacement, Expand.IsMoveOf, Series.AreMoves};
 
+use crate::arrivals::{Arrival, Exit};
 use crate::attempts::Attempt;
-use crate::leaving::{Leaving, one_to_leave};
-use crate::looks::rooms_of;
+use crate::clearing::{MOST_WITHDRAWN, clear};
 use crate::place::find_place;
+use crate::situation::Situation;
 use crate::stays::{draw_day, draw_patient};
 use crate::theatres::cheapest_theatre;
 use crate::words::RandomWords;
-use ih_costs::Ledgers;
-use ih_plan::{Move, Placement, end_of};
-use ih_tables::{Day, Instance, PatientNo, PersonNo, RoomNo};
+use ih_plan::{Move, Placement};
+use ih_tables::{Instance, PatientNo, RoomNo};
 use ih_validate::is_incompatible;
 
-// So many patients leave at most.
-const MOST_EJECTED: usize = 2;
-
 // A placement of the patient by random words, in a room that suits.
-fn draw_goal(
-    inst: &Instance,
-    hard: u32,
-    ledgers: &Ledgers<'_>,
-    words: &mut RandomWords,
-    patient: PatientNo,
-) -> Option<Placement>
-    requires instance { ledgers.now.instance ≡ inst.now.draft }
-    requires hard { hard ≤ 1000000 }
-    requires patient { patient.0 < patient_count inst.now.draft }
-    ensures { IfSome result (IsPlacement inst.now.draft) }
+fn draw_goal(here: &Situation<'_>, words: &mut RandomWords, patient: PatientNo) -> Option<Placement>
+    requires { patient.0 < patient_count here.now.inst.now.draft }
+    ensures { IfSome result (IsPlacement here.now.inst.now.draft) }
 {
-    let theatres = inst.theatres();
+    let theatres = here.inst.theatres();
     if theatres == 0 {
         return None;
     }
-    let day = draw_day(inst, words, patient)?;
-    let room = RoomNo(words.below(inst.rooms()));
-    if is_incompatible(inst.patient(patient), room) {
+    let day = draw_day(here.inst, words, patient)?;
+    let room = RoomNo(words.below(here.inst.rooms()));
+    if is_incompatible(here.inst.patient(patient), room) {
         return None;
     }
-    let theatre = cheapest_theatre(inst, hard, ledgers, patient, day, words.below(theatres));
+    let theatre = cheapest_theatre(here, patient, day, words.below(theatres));
     Some(Placement { day, room, theatre })
-}
-
-// Withdraws a person; false where it is an occupant, or enough have left.
-fn eject(inst: &Instance, person: PersonNo, attempt: &mut Attempt) -> bool
-    requires { AreMoves inst.now.draft attempt.old }
-    ensures { AreMoves inst.now.draft attempt.new }
-{
-    if person.0 >= inst.patients() || attempt.len() > MOST_EJECTED {
-        return false;
-    }
-    attempt.add(inst, Move::Withdraw(PatientNo(person.0)));
-    true
-}
-
-// Withdraws all who have to leave the room on the day so that the patient may come; false where too many have to.
-fn eject_on(
-    inst: &Instance,
-    ledgers: &Ledgers<'_>,
-    words: &mut RandomWords,
-    patient: PatientNo,
-    room: RoomNo,
-    day: Day,
-    attempt: &mut Attempt,
-) -> bool
-    requires instance { ledgers.now.instance ≡ inst.now.draft }
-    requires patient { patient.0 < patient_count inst.now.draft }
-    requires room { room.0 < room_count inst.now.draft }
-    requires day { day.0 < inst.now.draft.days }
-    requires moves { AreMoves inst.now.draft attempt.old }
-    ensures { AreMoves inst.now.draft attempt.new }
-{
-    let rooms = rooms_of(inst, ledgers);
-    'leaving: for _ in 0..MOST_EJECTED + 1 {
-        match one_to_leave(inst, rooms, words, patient, room, day, 1, attempt) {
-            Leaving::Nobody => return true,
-            Leaving::TooMany => return false,
-            Leaving::One(x) => {
-                if !eject(inst, x, attempt) {
-                    return false;
-                }
-            }
-        }
-    }
-    false
-}
-
-// The same for all days of a placement of the patient.
-fn eject_all(
-    inst: &Instance,
-    ledgers: &Ledgers<'_>,
-    words: &mut RandomWords,
-    patient: PatientNo,
-    at: Placement,
-    attempt: &mut Attempt,
-) -> bool
-    requires instance { ledgers.now.instance ≡ inst.now.draft }
-    requires patient { patient.0 < patient_count inst.now.draft }
-    requires placement { IsPlacement inst.now.draft at }
-    requires moves { AreMoves inst.now.draft attempt.old }
-    ensures { AreMoves inst.now.draft attempt.new }
-{
-    for d in at.day.0..end_of(inst, patient, at) {
-        if !eject_on(inst, ledgers, words, patient, at.room, Day(d), attempt) {
-            return false;
-        }
-    }
-    true
 }
 
 // The patient whom a move withdraws.
@@ -125,47 +47,35 @@ fn withdrawn(inst: &Instance, mv: Move) -> Option<PatientNo>
 
 // Another placement of the patient, on one of two days.
 fn find_twice(
-    inst: &Instance,
-    hard: u32,
-    ledgers: &Ledgers<'_>,
+    here: &Situation<'_>,
     words: &mut RandomWords,
     patient: PatientNo,
     attempt: &Attempt,
 ) -> Option<Placement>
-    requires instance { ledgers.now.instance ≡ inst.now.draft }
-    requires hard { hard ≤ 1000000 }
-    requires patient { patient.0 < patient_count inst.now.draft }
-    requires moves { AreMoves inst.now.draft attempt.now }
-    ensures { IfSome result (IsPlacement inst.now.draft) }
+    requires patient { patient.0 < patient_count here.now.inst.now.draft }
+    requires moves { AreMoves here.now.inst.now.draft attempt.now }
+    ensures { IfSome result (IsPlacement here.now.inst.now.draft) }
 {
-    match find_place(inst, hard, ledgers, words, patient, attempt) {
+    match find_place(here, words, patient, attempt) {
         Some(at) => Some(at),
-        None => find_place(inst, hard, ledgers, words, patient, attempt),
+        None => find_place(here, words, patient, attempt),
     }
 }
 
 // Gives each patient who was withdrawn another place. Who has none stays out; false where that is a mandatory patient.
-fn resettle(
-    inst: &Instance,
-    hard: u32,
-    ledgers: &Ledgers<'_>,
-    words: &mut RandomWords,
-    attempt: &mut Attempt,
-) -> bool
-    requires instance { ledgers.now.instance ≡ inst.now.draft }
-    requires hard { hard ≤ 1000000 }
-    requires moves { AreMoves inst.now.draft attempt.old }
-    ensures { AreMoves inst.now.draft attempt.new }
+fn resettle(here: &Situation<'_>, words: &mut RandomWords, attempt: &mut Attempt) -> bool
+    requires { AreMoves here.now.inst.now.draft attempt.old }
+    ensures { AreMoves here.now.inst.now.draft attempt.new }
 {
-    for i in 0..MOST_EJECTED + 1 {
+    for i in 0..MOST_WITHDRAWN + 1 {
         if i >= attempt.len() {
             return true;
         }
-        if let Some(q) = withdrawn(inst, attempt.at(inst, i)) {
-            match find_twice(inst, hard, ledgers, words, q, attempt) {
-                Some(at) => attempt.add(inst, Move::Place(q, at)),
+        if let Some(q) = withdrawn(here.inst, attempt.at(here.inst, i)) {
+            match find_twice(here, words, q, attempt) {
+                Some(at) => attempt.add(here.inst, Move::Place(q, at)),
                 None => {
-                    if inst.patient(q).mandatory {
+                    if here.inst.patient(q).mandatory {
                         return false;
                     }
                 }
@@ -178,28 +88,23 @@ fn resettle(
 /// Up to five moves: a patient gets a room and a day by random words, and at most two who have to leave get the first
 /// place that fits on one of two days, or stay out. None where an occupant, too many or a mandatory patient would have
 /// to leave for good.
-pub fn ejection(
-    inst: &Instance,
-    hard: u32,
-    ledgers: &Ledgers<'_>,
-    words: &mut RandomWords,
-    attempt: &mut Attempt,
-)
-    requires instance { ledgers.now.instance ≡ inst.now.draft }
-    requires hard { hard ≤ 1000000 }
-    requires moves { AreMoves inst.now.draft attempt.old }
-    ensures { AreMoves inst.now.draft attempt.new }
+pub fn ejection(here: &Situation<'_>, words: &mut RandomWords, attempt: &mut Attempt)
+    requires { AreMoves here.now.inst.now.draft attempt.old }
+    ensures { AreMoves here.now.inst.now.draft attempt.new }
 {
-    let Some(p) = draw_patient(inst, words) else {
+    let Some(patient) = draw_patient(here.inst, words) else {
         return;
     };
-    let Some(at) = draw_goal(inst, hard, ledgers, words, p) else {
+    let Some(at) = draw_goal(here, words, patient) else {
         return;
     };
-    attempt.add(inst, Move::Place(p, at));
-    if !eject_all(inst, ledgers, words, p, at, attempt)
-        || !resettle(inst, hard, ledgers, words, attempt)
-    {
-        attempt.begin(inst);
+    attempt.add(here.inst, Move::Place(patient, at));
+    let arrival = Arrival {
+        patient,
+        at,
+        exit: Exit::Out,
+    };
+    if !clear(here, words, arrival, attempt) || !resettle(here, words, attempt) {
+        attempt.begin(here.inst);
     }
 }

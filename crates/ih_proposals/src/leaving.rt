@@ -1,16 +1,15 @@
-//! Who has to leave a room so that another patient may come.
+//! Who has to leave a room so that a patient may come.
 
-ghost use Rattle.std.specs.Prelude.{◌≡◌, ◌<◌, ◌≤◌};
-ghost use Rattle.ih_tables.specs.Sizes.{patient_count, room_count};
-ghost use Rattle.ih_plan.specs.{Timetable.Timetable};
-ghost use Rattle.ih_roomdays.specs.Ledger.{IsLedgerOf};
+ghost use Rattle.std.specs.Prelude.{◌<◌};
+ghost use Rattle.ih_proposals.specs.{Arrivals.IsArrival, RoomDays.IsRoomDay};
 
+use crate::arrivals::{Arrival, Exit};
 use crate::attempts::Attempt;
-use crate::beds::person_at;
+use crate::room_days::{RoomDay, person_at};
+use crate::situation::Situation;
 use crate::words::RandomWords;
 use ih_plan::Members;
-use ih_roomdays::RoomDays;
-use ih_tables::{Day, Instance, PatientNo, PersonNo, RoomNo};
+use ih_tables::{Day, PersonNo};
 
 /// Who has to leave.
 pub enum Leaving {
@@ -22,30 +21,52 @@ pub enum Leaving {
     TooMany,
 }
 
-/// Who of a room on a day, other than those whom the attempt moves, has to leave when so many come, of whom one is the
-/// patient: a person of another gender or, where the room would have more persons than beds, one by random words.
+// How many persons of the room on the day the attempt moves.
+fn count_moved(here: &Situation<'_>, there: RoomDay, attempt: &Attempt) -> u32
+    requires { IsRoomDay here.now.inst.now.draft there }
+{
+    let rooms = here.room_days();
+    let mut moved = 0;
+    for i in 0..rooms.count(there.room, there.day) {
+        if attempt.moves_person(person_at(here.inst, rooms, there, i)) {
+            moved += 1;
+        }
+    }
+    moved
+}
+
+// How many come to the patient's room on the day: the patient alone or, where two rooms exchange persons, all of the
+// other room whom the attempt moves.
+fn count_coming(here: &Situation<'_>, arrival: Arrival, day: Day, attempt: &Attempt) -> u32
+    requires arrival { IsArrival here.now.inst.now.draft arrival }
+    requires day { day.0 < here.now.inst.now.draft.days }
+{
+    match arrival.exit {
+        Exit::Out => 1,
+        Exit::To(room) => count_moved(here, RoomDay { room, day }, attempt),
+    }
+}
+
+/// Who of the patient's room on a day, other than those whom the attempt moves, has to leave: a person of another
+/// gender or, where the room would have more persons than beds, one by random words.
 pub fn one_to_leave(
-    inst: &Instance,
-    rooms: &RoomDays,
+    here: &Situation<'_>,
     words: &mut RandomWords,
-    patient: PatientNo,
-    room: RoomNo,
+    arrival: Arrival,
     day: Day,
-    coming: u32,
     attempt: &Attempt,
 ) -> Leaving
-    requires stands { (P : Timetable) × IsLedgerOf inst.now.draft P rooms.now }
-    requires patient { patient.0 < patient_count inst.now.draft }
-    requires room { room.0 < room_count inst.now.draft }
-    requires day { day.0 < inst.now.draft.days }
+    requires arrival { IsArrival here.now.inst.now.draft arrival }
+    requires day { day.0 < here.now.inst.now.draft.days }
 {
-    let beds = inst.room(room).capacity;
+    let room = arrival.at.room;
+    let rooms = here.room_days();
     let mut drawn = None;
     let mut staying = 0;
     for i in 0..rooms.count(room, day) {
-        let x = person_at(inst, rooms, room, day, i);
+        let x = person_at(here.inst, rooms, RoomDay { room, day }, i);
         if !attempt.moves_person(x) {
-            if !rooms.same_gender(PersonNo(patient.0), x) {
+            if !rooms.same_gender(PersonNo(arrival.patient.0), x) {
                 return Leaving::One(x);
             }
             staying += 1;
@@ -54,7 +75,8 @@ pub fn one_to_leave(
             }
         }
     }
-    if staying as u64 + coming as u64 <= beds as u64 {
+    let coming = count_coming(here, arrival, day, attempt);
+    if staying as u64 + coming as u64 <= here.inst.room(room).capacity as u64 {
         return Leaving::Nobody;
     }
     match drawn {

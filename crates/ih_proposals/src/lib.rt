@@ -1,14 +1,14 @@
 //! What a search tries: moves that look at the plan before they are priced, drawn by random words.
 #![tactic(auto)]
 
+mod arrivals;
 mod attempts;
 mod beds;
-mod blind;
 mod cheapest_nurse;
+mod clearing;
 mod ejection;
 mod kempe;
 mod leaving;
-mod looks;
 mod mix;
 mod moments;
 mod nurse_of_stay;
@@ -17,6 +17,8 @@ mod nurse_swap;
 mod nurses;
 mod place;
 mod proposing;
+mod room_days;
+mod situation;
 mod stays;
 mod swap;
 mod theatres;

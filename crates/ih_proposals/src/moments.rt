@@ -1,14 +1,13 @@
 //! The shifts in which a person needs care, by random words: with them each kind that changes nurses begins.
 
-ghost use Rattle.std.specs.Prelude.{◌≡◌, ◌<◌, IfSome};
+ghost use Rattle.std.specs.Prelude.{◌<◌, IfSome};
 ghost use Rattle.ih_tables.specs.Sizes.{person_count};
 ghost use Rattle.ih_proposals.specs.Moments.{AreDays, IsMoment};
 
-use crate::looks::stay_of;
+use crate::situation::Situation;
 use crate::words::RandomWords;
-use ih_costs::Ledgers;
 use ih_plan::{end_from, end_of};
-use ih_tables::{Instance, PatientNo, RoomNo};
+use ih_tables::{PatientNo, RoomNo};
 
 /// A person's stay: the room, and its days from one on and before another.
 #[derive(Clone, Copy)]
@@ -26,14 +25,14 @@ pub struct Moment {
 }
 
 // The stay of a person, where it has one.
-fn days_of(inst: &Instance, ledgers: &Ledgers<'_>, person: u32) -> Option<StayDays>
-    requires instance { ledgers.now.instance ≡ inst.now.draft }
-    requires person { person < person_count inst.now.draft }
-    ensures { IfSome result (AreDays inst.now.draft) }
+fn days_of(here: &Situation<'_>, person: u32) -> Option<StayDays>
+    requires { person < person_count here.now.inst.now.draft }
+    ensures { IfSome result (AreDays here.now.inst.now.draft) }
 {
+    let inst = here.inst;
     let patients = inst.patients();
     if person < patients {
-        let at = stay_of(inst, ledgers, PatientNo(person))?;
+        let at = here.stay(PatientNo(person))?;
         Some(StayDays {
             room: at.room,
             from: at.day.0,
@@ -50,19 +49,14 @@ fn days_of(inst: &Instance, ledgers: &Ledgers<'_>, person: u32) -> Option<StayDa
 }
 
 /// A shift of a person's stay, both by random words; none where the person isn't admitted.
-pub fn draw_moment(
-    inst: &Instance,
-    ledgers: &Ledgers<'_>,
-    words: &mut RandomWords,
-) -> Option<Moment>
-    requires instance { ledgers.now.instance ≡ inst.now.draft }
-    ensures { IfSome result (IsMoment inst.now.draft) }
+pub fn draw_moment(here: &Situation<'_>, words: &mut RandomWords) -> Option<Moment>
+    ensures { IfSome result (IsMoment here.now.inst.now.draft) }
 {
-    let persons = inst.persons();
+    let persons = here.inst.persons();
     if persons == 0 {
         return None;
     }
-    let days = days_of(inst, ledgers, words.below(persons))?;
+    let days = days_of(here, words.below(persons))?;
     if days.to <= days.from {
         return None;
     }

@@ -1,66 +1,46 @@
 //! A patient in a room that fits, and in the theatre that is cheapest there.
 
-ghost use Rattle.std.specs.Prelude.{◌≡◌, ◌<◌, ◌≤◌, IfSome};
+ghost use Rattle.std.specs.Prelude.{◌<◌, IfSome};
 ghost use Rattle.ih_tables.specs.Sizes.{patient_count};
-ghost use Rattle.ih_plan.specs.{Timetable.IsPlacement, Series.AreMoves};
+ghost use Rattle.ih_plan.specs.{Timetable.IsPlacement, Expand.IsMoveOf, Series.AreMoves};
 
 use crate::attempts::Attempt;
+use crate::situation::Situation;
 use crate::stays::{draw_day, draw_patient, first_fit};
 use crate::theatres::cheapest_theatre;
 use crate::words::RandomWords;
-use ih_costs::Ledgers;
 use ih_plan::{Move, Placement};
-use ih_tables::{Instance, PatientNo};
+use ih_tables::PatientNo;
 
 /// Another placement of the patient, by random words: the first room that fits from a day on, beside those who are
 /// there once the attempt is made.
 pub fn find_place(
-    inst: &Instance,
-    hard: u32,
-    ledgers: &Ledgers<'_>,
+    here: &Situation<'_>,
     words: &mut RandomWords,
     patient: PatientNo,
     attempt: &Attempt,
 ) -> Option<Placement>
-    requires instance { ledgers.now.instance ≡ inst.now.draft }
-    requires hard { hard ≤ 1000000 }
-    requires patient { patient.0 < patient_count inst.now.draft }
-    requires moves { AreMoves inst.now.draft attempt.now }
-    ensures { IfSome result (IsPlacement inst.now.draft) }
+    requires patient { patient.0 < patient_count here.now.inst.now.draft }
+    requires moves { AreMoves here.now.inst.now.draft attempt.now }
+    ensures { IfSome result (IsPlacement here.now.inst.now.draft) }
 {
-    let theatres = inst.theatres();
+    let theatres = here.inst.theatres();
     if theatres == 0 {
         return None;
     }
-    let day = draw_day(inst, words, patient)?;
-    let room = first_fit(
-        inst,
-        ledgers,
-        patient,
-        day,
-        words.below(inst.rooms()),
-        attempt,
-    )?;
-    let theatre = cheapest_theatre(inst, hard, ledgers, patient, day, words.below(theatres));
+    let day = draw_day(here.inst, words, patient)?;
+    let first = words.below(here.inst.rooms());
+    let room = first_fit(here, patient, day, first, attempt)?;
+    let theatre = cheapest_theatre(here, patient, day, words.below(theatres));
     Some(Placement { day, room, theatre })
 }
 
-/// One move: a patient, by a random word, to another placement.
-pub fn place(
-    inst: &Instance,
-    hard: u32,
-    ledgers: &Ledgers<'_>,
-    words: &mut RandomWords,
-    attempt: &mut Attempt,
-)
-    requires instance { ledgers.now.instance ≡ inst.now.draft }
-    requires hard { hard ≤ 1000000 }
-    requires moves { AreMoves inst.now.draft attempt.old }
-    ensures { AreMoves inst.now.draft attempt.new }
+/// A move: a patient, by a random word, to another placement, beside those who are there once the attempt is made.
+pub fn place(here: &Situation<'_>, words: &mut RandomWords, attempt: &Attempt) -> Option<Move>
+    requires { AreMoves here.now.inst.now.draft attempt.now }
+    ensures { IfSome result (IsMoveOf here.now.inst.now.draft) }
 {
-    if let Some(p) = draw_patient(inst, words) {
-        if let Some(at) = find_place(inst, hard, ledgers, words, p, attempt) {
-            attempt.add(inst, Move::Place(p, at));
-        }
-    }
+    let patient = draw_patient(here.inst, words)?;
+    let at = find_place(here, words, patient, attempt)?;
+    Some(Move::Place(patient, at))
 }

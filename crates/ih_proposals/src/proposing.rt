@@ -4,7 +4,6 @@ ghost use Rattle.std.specs.Prelude.{◌≡◌, ◌≤◌, length};
 ghost use Rattle.ih_plan.specs.{Series.AreMoves};
 
 use crate::attempts::Attempt;
-use crate::blind::draw_blindly;
 use crate::cheapest_nurse::cheapest_nurse;
 use crate::ejection::ejection;
 use crate::kempe::kempe;
@@ -13,35 +12,31 @@ use crate::nurse_of_stay::nurse_of_stay;
 use crate::nurse_run::nurse_run;
 use crate::nurse_swap::nurse_swap;
 use crate::place::place;
+use crate::situation::Situation;
 use crate::swap::swap;
 use crate::words::RandomWords;
 use ih_costs::Ledgers;
 use ih_tables::Instance;
 
 // An attempt of a kind.
-fn propose_kind(
-    kind: Kind,
-    inst: &Instance,
-    hard: u32,
-    ledgers: &Ledgers<'_>,
-    words: &mut RandomWords,
-    attempt: &mut Attempt,
-)
-    requires instance { ledgers.now.instance ≡ inst.now.draft }
-    requires hard { hard ≤ 1000000 }
-    requires moves { AreMoves inst.now.draft attempt.old }
-    ensures { AreMoves inst.now.draft attempt.new }
+fn propose_kind(here: &Situation<'_>, kind: Kind, words: &mut RandomWords, attempt: &mut Attempt)
+    requires { AreMoves here.now.inst.now.draft attempt.old }
+    ensures { AreMoves here.now.inst.now.draft attempt.new }
 {
+    let inst = here.inst;
     match kind {
-        Kind::Blind => draw_blindly(inst, words, attempt),
-        Kind::Place => place(inst, hard, ledgers, words, attempt),
-        Kind::Swap => swap(inst, ledgers, words, attempt),
-        Kind::NurseOfStay => nurse_of_stay(inst, ledgers, words, attempt),
-        Kind::Ejection => ejection(inst, hard, ledgers, words, attempt),
-        Kind::Kempe => kempe(inst, ledgers, words, attempt),
-        Kind::NurseRun => nurse_run(inst, ledgers, words, attempt),
-        Kind::NurseSwap => nurse_swap(inst, ledgers, words, attempt),
-        Kind::CheapestNurse => cheapest_nurse(inst, hard, ledgers, words, attempt),
+        Kind::Blind => attempt.add(inst, words.blind(inst)),
+        Kind::Place => {
+            let found = place(here, words, attempt);
+            attempt.add_found(inst, found);
+        }
+        Kind::Swap => swap(here, words, attempt),
+        Kind::NurseOfStay => attempt.add_found(inst, nurse_of_stay(here, words)),
+        Kind::Ejection => ejection(here, words, attempt),
+        Kind::Kempe => kempe(here, words, attempt),
+        Kind::NurseRun => attempt.add_found(inst, nurse_run(here, words)),
+        Kind::NurseSwap => nurse_swap(here, words, attempt),
+        Kind::CheapestNurse => attempt.add_found(inst, cheapest_nurse(here, words)),
     }
 }
 
@@ -60,15 +55,14 @@ pub fn propose(
     ensures moves { AreMoves inst.now.draft attempt.new }
     ensures few { length attempt.new ≤ 8 }
 {
-    attempt.begin(inst);
-    propose_kind(
-        kind_of(words.below(256)),
+    let here = Situation {
         inst,
-        hard,
         ledgers,
-        words,
-        attempt,
-    );
+        hard,
+    };
+    attempt.begin(inst);
+    let kind = kind_of(words.below(256));
+    propose_kind(&here, kind, words, attempt);
     // For the proof alone.
     let _few = attempt.len();
 }

@@ -1,14 +1,13 @@
 //! What is asked of a patient's stay: where it is, where it could be, and in which theatre.
 
-ghost use Rattle.std.specs.Prelude.{◌≡◌, ◌<◌, IfSome};
+ghost use Rattle.std.specs.Prelude.{◌<◌, IfSome};
 ghost use Rattle.ih_tables.specs.Sizes.{patient_count, room_count, theatre_count};
 ghost use Rattle.ih_plan.specs.{Series.AreMoves};
 
 use crate::attempts::Attempt;
 use crate::beds::fits;
-use crate::looks::stay_of;
+use crate::situation::Situation;
 use crate::words::RandomWords;
-use ih_costs::Ledgers;
 use ih_moves::window_len;
 use ih_plan::Placement;
 use ih_tables::{Day, Instance, PatientNo, RoomNo, TheatreNo};
@@ -69,23 +68,21 @@ fn is_in(stay: Option<Placement>, day: Day, room: RoomNo) -> bool {
 /// The first room that the patient fits into from a day on, beside those who are there once the attempt is made. Rooms
 /// are tried from `first` on, then from 0. If the patient comes on that day already, its own room isn't tried.
 pub fn first_fit(
-    inst: &Instance,
-    ledgers: &Ledgers<'_>,
+    here: &Situation<'_>,
     patient: PatientNo,
     day: Day,
     first: u32,
     attempt: &Attempt,
 ) -> Option<RoomNo>
-    requires instance { ledgers.now.instance ≡ inst.now.draft }
-    requires patient { patient.0 < patient_count inst.now.draft }
-    requires day { day.0 < inst.now.draft.days }
-    requires first { first < room_count inst.now.draft }
-    requires theatres { 0 < theatre_count inst.now.draft }
-    requires moves { AreMoves inst.now.draft attempt.now }
-    ensures { IfSome result (λ r. r.0 < room_count inst.now.draft) }
+    requires patient { patient.0 < patient_count here.now.inst.now.draft }
+    requires day { day.0 < here.now.inst.now.draft.days }
+    requires first { first < room_count here.now.inst.now.draft }
+    requires theatres { 0 < theatre_count here.now.inst.now.draft }
+    requires moves { AreMoves here.now.inst.now.draft attempt.now }
+    ensures { IfSome result (λ r. r.0 < room_count here.now.inst.now.draft) }
 {
-    let rooms = inst.rooms();
-    let old = stay_of(inst, ledgers, patient);
+    let rooms = here.inst.rooms();
+    let old = here.stay(patient);
     for i in 0..rooms {
         let room = RoomNo(cyclic(first, i, rooms));
         let at = Placement {
@@ -93,7 +90,7 @@ pub fn first_fit(
             room,
             theatre: TheatreNo(0),
         };
-        if !is_in(old, day, room) && fits(inst, ledgers, patient, at, attempt) {
+        if !is_in(old, day, room) && fits(here, patient, at, attempt) {
             return Some(room);
         }
     }

@@ -1,14 +1,13 @@
 //! A patient in the place of another of the same gender, who takes the first one's place or is left out.
 
-ghost use Rattle.std.specs.Prelude.{◌≡◌, ◌<◌, ◌≤◌, IfSome};
+ghost use Rattle.std.specs.Prelude.{◌<◌, IfSome};
 ghost use Rattle.ih_tables.specs.Sizes.{patient_count};
 ghost use Rattle.ih_plan.specs.{Timetable.IsPlacement, Expand.IsMoveOf, Series.AreMoves};
 
 use crate::attempts::Attempt;
-use crate::looks::{rooms_of, stay_of};
+use crate::situation::Situation;
 use crate::stays::{cyclic, draw_patient};
 use crate::words::RandomWords;
-use ih_costs::Ledgers;
 use ih_plan::{Move, Placement};
 use ih_tables::{Instance, PatientNo, PersonNo};
 use ih_validate::{is_incompatible, outside_window};
@@ -53,20 +52,21 @@ fn may_exchange(
 
 // The placement of the other that the patient may take, whose own is `mine`.
 fn place_of_other(
-    inst: &Instance,
-    ledgers: &Ledgers<'_>,
+    here: &Situation<'_>,
     patient: PatientNo,
     mine: Option<Placement>,
     other: PatientNo,
 ) -> Option<Placement>
-    requires instance { ledgers.now.instance ≡ inst.now.draft }
-    requires patient { patient.0 < patient_count inst.now.draft }
-    requires other { other.0 < patient_count inst.now.draft }
-    ensures { IfSome result (IsPlacement inst.now.draft) }
+    requires patient { patient.0 < patient_count here.now.inst.now.draft }
+    requires other { other.0 < patient_count here.now.inst.now.draft }
+    ensures { IfSome result (IsPlacement here.now.inst.now.draft) }
 {
-    let theirs = stay_of(inst, ledgers, other)?;
+    let inst = here.inst;
+    let theirs = here.stay(other)?;
     if patient.0 == other.0
-        || !rooms_of(inst, ledgers).same_gender(PersonNo(patient.0), PersonNo(other.0))
+        || !here
+            .room_days()
+            .same_gender(PersonNo(patient.0), PersonNo(other.0))
     {
         return None;
     }
@@ -95,20 +95,20 @@ fn move_away(_inst: &Instance, patient: PatientNo, to: Option<Placement>) -> Mov
 
 /// Two moves, for a patient by a random word and the first other patient, cyclically from a random one on, whose place
 /// the patient may take: both exchange their placements, or the other is left out where the patient isn't admitted.
-pub fn swap(inst: &Instance, ledgers: &Ledgers<'_>, words: &mut RandomWords, attempt: &mut Attempt)
-    requires instance { ledgers.now.instance ≡ inst.now.draft }
-    requires moves { AreMoves inst.now.draft attempt.old }
-    ensures { AreMoves inst.now.draft attempt.new }
+pub fn swap(here: &Situation<'_>, words: &mut RandomWords, attempt: &mut Attempt)
+    requires { AreMoves here.now.inst.now.draft attempt.old }
+    ensures { AreMoves here.now.inst.now.draft attempt.new }
 {
+    let inst = here.inst;
     let Some(p) = draw_patient(inst, words) else {
         return;
     };
     let patients = inst.patients();
-    let mine = stay_of(inst, ledgers, p);
+    let mine = here.stay(p);
     let first = words.below(patients);
     for i in 0..patients.min(LOOKS) {
         let q = PatientNo(cyclic(first, i, patients));
-        if let Some(theirs) = place_of_other(inst, ledgers, p, mine, q) {
+        if let Some(theirs) = place_of_other(here, p, mine, q) {
             attempt.add(inst, move_away(inst, q, mine));
             attempt.add(inst, Move::Place(p, theirs));
             return;

@@ -2,4 +2,4 @@ use Rattle.ih_plan.specs.Series.{AreMoves}
 use Rattle.ih_proposals.proofs.nurse_swap.nurse_swap.Given as goal
 
 abbrev pub invariant-loop-k : goal.invariant-loop-k
-invariant-loop-k l = AreMoves l.inst.draft l.attempt
+invariant-loop-k l = AreMoves l.here.inst.now.draft l.attempt

@@ -2,4 +2,4 @@ use Rattle.ih_plan.specs.Series.{AreMoves}
 use Rattle.ih_proposals.proofs.swap.swap.Given as goal
 
 abbrev pub invariant-loop-i : goal.invariant-loop-i
-invariant-loop-i l = AreMoves l.inst.draft l.attempt
+invariant-loop-i l = AreMoves l.here.inst.now.draft l.attempt

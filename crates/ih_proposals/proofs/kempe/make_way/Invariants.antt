@@ -1,5 +1,0 @@
-use Rattle.ih_plan.specs.Series.{AreMoves}
-use Rattle.ih_proposals.proofs.kempe.make_way.Given as goal
-
-abbrev pub invariant-loop-d : goal.invariant-loop-d
-invariant-loop-d l = AreMoves l.inst.draft l.attempt

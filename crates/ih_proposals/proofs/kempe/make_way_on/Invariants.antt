@@ -1,5 +1,0 @@
-use Rattle.ih_plan.specs.Series.{AreMoves}
-use Rattle.ih_proposals.proofs.kempe.make_way_on.Given as goal
-
-abbrev pub invariant-leaving : goal.invariant-leaving
-invariant-leaving l = AreMoves l.inst.draft l.attempt

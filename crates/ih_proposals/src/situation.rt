@@ -1,0 +1,74 @@
+//! What a proposal looks at.
+
+ghost use Rattle.std.specs.Prelude.{◌≡◌, ◌≤◌};
+
+use ih_costs::Ledgers;
+use ih_plan::{Placement, nurse_at};
+use ih_roomdays::RoomDays;
+use ih_tables::{Bill, Instance, NurseNo, PatientNo, RoomNo, Shift};
+use ih_theatres::Theatres;
+
+/// A timetable of an instance, by its ledgers, and what a broken rule weighs in a score.
+#[derive(Drop)]
+pub struct Situation<'a> {
+    pub inst: &'a Instance,
+    pub ledgers: &'a Ledgers<'a>,
+    pub hard: u32,
+    pub ghost ledgers_fit: { ledgers.now.instance ≡ inst.now.draft },
+    pub ghost hard_fits: { hard ≤ 1000000 },
+}
+
+impl<'a> Situation<'a> {
+    ghost use Rattle.std.specs.Prelude.{◌<◌, ◌^◌, ◌<ℤ◌, neg_ℤ, pos, IfSome};
+    ghost use Rattle.ih_tables.specs.Sizes.{patient_count, room_count, shift_count, nurse_count};
+    ghost use Rattle.ih_tables.specs.Bills.{IsWithin};
+    ghost use Rattle.ih_plan.specs.Timetable.{Timetable, IsPlacement, stay_of};
+    ghost use Rattle.ih_roomdays.specs.Ledger.{IsLedgerOf as AreRoomDaysOf};
+    ghost use Rattle.ih_theatres.specs.Ledger.{IsLedgerOf as AreTheatresOf};
+
+    /// The stay of a patient, where the patient is admitted.
+    #[inline(always)]
+    pub fn stay(&self, patient: PatientNo) -> Option<Placement>
+        requires { patient.0 < patient_count self.now.inst.now.draft }
+        ensures value { stay_of self.now.ledgers.now.plan patient.0 ≡ result }
+        ensures inside { IfSome result (IsPlacement self.now.inst.now.draft) }
+    {
+        self.ledgers.plan().stay(patient)
+    }
+
+    /// The nurse of a room in a shift, where it has one.
+    #[inline(always)]
+    pub fn nurse(&self, room: RoomNo, shift: Shift) -> Option<NurseNo>
+        requires room { room.0 < room_count self.now.inst.now.draft }
+        requires shift { shift.0 < shift_count self.now.inst.now.draft }
+        ensures { IfSome result (λ n. n.0 < nurse_count self.now.inst.now.draft) }
+    {
+        nurse_at(self.inst, self.ledgers.plan(), room, shift)
+    }
+
+    /// Who is in each room on each day.
+    #[inline(always)]
+    pub fn room_days(&self) -> &RoomDays
+        ensures { (P : Timetable) × AreRoomDaysOf self.now.inst.now.draft P result.now }
+    {
+        self.ledgers.room_days()
+    }
+
+    /// Who has surgery in each theatre on each day.
+    #[inline(always)]
+    pub fn theatres(&self) -> &Theatres
+        ensures { AreTheatresOf self.now.inst.now.draft self.now.ledgers.now.plan result.now }
+    {
+        self.ledgers.theatres()
+    }
+
+    /// The score of a bill, or of a change of one: the weighted costs, and `hard` for each unit of a broken hard rule.
+    #[inline(always)]
+    pub fn score(&self, bill: &Bill) -> i64
+        requires { IsWithin (10 ^ 11) bill.now }
+        ensures low { neg_ℤ (pos (10 ^ 18)) <ℤ result }
+        ensures high { result <ℤ pos (10 ^ 18) }
+    {
+        bill.score(self.hard, self.inst.weights())
+    }
+}
