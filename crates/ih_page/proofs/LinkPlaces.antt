@@ -191,17 +191,17 @@ module _ (I : Draft) (first : Option Date) (older : Option Timetable) (P : Timet
   -- ---- those who are left out
 
   out : (p : ℕ) (a : Patient) (o : Option Placement) → None ≡ o → slice_get I.patients p ≡ Some a
-      → IsPartOf (left_out_item first p a) (if is_none o then option_map_or (left_out_item first p) (slice_get I.patients p) [] else [])
+      → IsPartOf (left_out_item I first p a) (if is_none o then option_map_or (left_out_item I first p) (slice_get I.patients p) [] else [])
   out p a o none known =
-      let item = λ (z : Option Placement). if is_none z then option_map_or (left_out_item first p) (slice_get I.patients p) [] else [] in
-      subst (λ (z : Option Placement). IsPartOf (left_out_item first p a) (item z)) none
-      (in-some (left_out_item first p a) (left_out_item first p) (slice_get I.patients p) a known (whole (left_out_item first p a)))
+      let item = λ (z : Option Placement). if is_none z then option_map_or (left_out_item I first p) (slice_get I.patients p) [] else [] in
+      subst (λ (z : Option Placement). IsPartOf (left_out_item I first p a) (item z)) none
+      (in-some (left_out_item I first p a) (left_out_item I first p) (slice_get I.patients p) a known (whole (left_out_item I first p a)))
 
   among-left-out : (p : ℕ) (a : Patient) → p < patient_count I → stay_of P p ≡ None → slice_get I.patients p ≡ Some a
-      → IsPartOf (left_out_item first p a) (left_out I first P)
+      → IsPartOf (left_out_item I first p a) (left_out I first P)
   unfolding left_out
   among-left-out p a h none known =
-      let part = left_out_item first p a in
+      let part = left_out_item I first p a in
       in-rest part (codes "<h2 id=left>Patients who are left out</h2>\n<ul>\n") _
       (in-first part (lines_below (patient_count I) (left_out_of I first P)) _
       (in-lines part (left_out_of I first P) p (patient_count I) h (out p a (stay_of P p) (sym none) known)))
@@ -212,7 +212,7 @@ module _ (I : Draft) (first : Option Date) (older : Option Timetable) (P : Timet
 
   person : (p : ℕ) (a : Patient) (o : Option Placement) → IsPlanOf I P → p < patient_count I → stay_of P p ≡ o → slice_get I.patients p ≡ Some a
       → IsPartOf (person_text I first p a o) (page_of I first older P)
-  person p a None plan h stay known = in-tables (left_out_item first p a) (in-left-out (left_out_item first p a) (among-left-out p a h stay known))
+  person p a None plan h stay known = in-tables (left_out_item I first p a) (in-left-out (left_out_item I first p a) (among-left-out p a h stay known))
   person p a (Some at) plan h stay known =
       let part = patient_row I p at a in
       let placed : IsPlacement I at = plan.placed p at stay in

@@ -50,7 +50,7 @@ nurse-head o = if-any nurse_head head o
 shift : (I : Draft) (k : ℕ) → Own (shift_head I k)
 shift I k ids = simp (by_pieces, shift-name) refl
 
-pub nurse-heads : (I : Draft) (first : Option Date) → Own (heads_and_days I first (codes "<h2>Nurses by shifts: workload of the maximum, and rooms</h2>\n<div><table><thead><tr><th>nurse<th>skill") (codes "<th colspan=3>"))
+pub nurse-heads : (I : Draft) (first : Option Date) → Own (heads_and_days I first (codes "<h2>Nurses by shifts: workload of the maximum, and rooms</h2>\n<p>empty: off; ! above the maximum; ! with off: off, but given a room</p>\n<div><table><thead><tr><th>nurse<th>skill") (codes "<th colspan=3>"))
 nurse-heads I first = wide-heads I first _ (λ ids. refl)
 
 pub shift-heads : (I : Draft) → Own (shift_heads I)

@@ -87,13 +87,13 @@ module _ (I : Draft) (first : Option Date) (P : Timetable) (valid : IsValid I) w
   -- ---- who is left out
 
   out-of : (p : ℕ) (o : Option Placement) → p < patient_count I → stay_of P p ≡ o
-      → Opens (λ id. (first_number id ≡ p) × Of 5 id) (if is_none o then option_map_or (left_out_item first p) (slice_get I.patients p) [] else [])
+      → Opens (λ id. (first_number id ≡ p) × Of 5 id) (if is_none o then option_map_or (left_out_item I first p) (slice_get I.patients p) [] else [])
   out-of p (Some at) h stay = no-id (λ (id : List ℕ). (first_number id ≡ p) × Of 5 id) [] (λ ids. refl)
   out-of p None h stay =
       let K = λ (id : List ℕ). (first_number id ≡ p) × Of 5 id in
       let small : p < 2 ^ 64 = omega (arith, h, valid.patients.len.most) in
-      if-there K (left_out_item first p) (slice_get I.patients p) (λ a known.
-      one-id K (one_number 112 p) (left_out_item first p a) (left-out-item first p a) (only-number 112 p small, out-section I P p small h stay))
+      if-there K (left_out_item I first p) (slice_get I.patients p) (λ a known.
+      one-id K (one_number 112 p) (left_out_item I first p a) (left-out-item I first p a) (only-number 112 p small, out-section I P p small h stay))
 
   out-patients : Opens (Of 5) (lines_below (patient_count I) (left_out_of I first P))
   out-patients = all-lines first_number (Of 5) (left_out_of I first P) (patient_count I) (λ p h. out-of p (stay_of P p) h refl)

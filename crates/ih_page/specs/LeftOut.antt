@@ -1,4 +1,4 @@
--- The patients who are left out, with their windows.
+-- The patients who are left out, with their windows and with what their admission would take.
 use Rattle.std.specs.Prelude.{ℕ, Bool, true, false, List, [], ◌++◌, ◌==◌, Option, Some, None, codes, is_none, slice_get, if◌then◌else◌}
 use Rattle.std.specs.Option.{option_map_or}
 use Rattle.ih_dates.specs.declared.dates.Date.{Date}
@@ -9,7 +9,8 @@ use Rattle.ih_plan.specs.Sums.{count_below}
 use Rattle.ih_plan.specs.Timetable.{Timetable, stay_of}
 use Rattle.ih_validate.specs.Report.{lines_below}
 use Rattle.ih_page.specs.DayHeads.{day_behind, day_text}
-use Rattle.ih_page.specs.Html.{numbered}
+use Rattle.ih_page.specs.Html.{labelled, numbered}
+use Rattle.ih_page.specs.Rooms.{surgeon_name}
 
 -- the last day of a window, where there is one
 abbrev pub last_day : Option Date → Option ℕ → List ℕ
@@ -22,12 +23,28 @@ need_text false = codes "optional"
 
 -- from the release day to the due day
 unfoldable pub window_text : Option Date → Patient → List ℕ
-window_text first a = day_text first a.surgery_release_day ++ (last_day first a.surgery_due_day ++ codes "\n")
+window_text first a = day_text first a.surgery_release_day ++ last_day first a.surgery_due_day
+
+-- the end of a word for so many things
+abbrev pub plural_of : ℕ → List ℕ
+plural_of n = if n == 1 then [] else codes "s"
+
+-- so many things after a text
+unfoldable pub counted : List ℕ → ℕ → List ℕ → List ℕ
+counted text n thing = labelled text n ++ (thing ++ plural_of n)
+
+-- what an admission would take: days of stay, minutes of surgery, and the surgeon
+unfoldable pub demand_text : Draft → Patient → List ℕ
+demand_text I a =
+    counted (codes ", stays ") a.length_of_stay (codes " day")
+    ++ (counted (codes ", ") a.surgery_duration (codes " minute")
+    ++ (codes " by surgeon " ++ (surgeon_name I a.surgeon_id.0 ++ codes "\n")))
 
 -- the item of patient a, whose number is p
-abbrev pub left_out_item : Option Date → ℕ → Patient → List ℕ
-left_out_item first p a =
-    numbered (codes "<li id=p") p (codes ">") a.id ++ (codes ": " ++ (need_text a.mandatory ++ window_text first a))
+abbrev pub left_out_item : Draft → Option Date → ℕ → Patient → List ℕ
+left_out_item I first p a =
+    numbered (codes "<li id=p") p (codes ">") a.id
+    ++ (codes ": " ++ (need_text a.mandatory ++ (window_text first a ++ demand_text I a)))
 
 abbrev pub is_left_out : Timetable → ℕ → Bool
 is_left_out P p = is_none (stay_of P p)
@@ -35,7 +52,7 @@ is_left_out P p = is_none (stay_of P p)
 -- the same, where the patient isn't admitted
 abbrev pub left_out_of : Draft → Option Date → Timetable → ℕ → List ℕ
 left_out_of I first P p =
-    if is_left_out P p then option_map_or (left_out_item first p) (slice_get I.patients p) [] else []
+    if is_left_out P p then option_map_or (left_out_item I first p) (slice_get I.patients p) [] else []
 
 -- how many patients are left out
 abbrev pub left_out_count : Draft → Timetable → ℕ

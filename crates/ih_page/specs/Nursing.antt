@@ -70,6 +70,6 @@ shift_heads I = codes "\n<tr><th>shift<th>" ++ (lines_below (shift_count I) (shi
 unfoldable pub nurses_text : Draft → Option Date → Timetable → List ℕ
 nurses_text I first P =
     heads_and_days I first
-    (codes "<h2>Nurses by shifts: workload of the maximum, and rooms</h2>\n<div><table><thead><tr><th>nurse<th>skill")
+    (codes "<h2>Nurses by shifts: workload of the maximum, and rooms</h2>\n<p>empty: off; ! above the maximum; ! with off: off, but given a room</p>\n<div><table><thead><tr><th>nurse<th>skill")
     (codes "<th colspan=3>")
     ++ (shift_heads I ++ (lines_below (nurse_count I) (nurse_row I P) ++ codes "</table></div>\n"))

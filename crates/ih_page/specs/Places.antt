@@ -27,7 +27,7 @@ pub record IsPartOf (part text : List ℕ) : Type 0 where
 
 -- what stands in the page of a patient: its row in the room, or its item among those who are left out
 abbrev pub person_text : Draft → Option Date → ℕ → Patient → Option Placement → List ℕ
-person_text I first p a None = left_out_item first p a
+person_text I first p a None = left_out_item I first p a
 person_text I first p a (Some at) = patient_row I p at a
 
 -- Each cell to which a link leads stands in the page, and each patient and occupant, the list of each line of the report

@@ -1,11 +1,13 @@
--- Theatres and surgeons by days: the minutes of surgery beside their limit, and the patients.
-use Rattle.std.specs.Prelude.{ℕ, ◌*◌, ◌/◌, min, List, [], ◌++◌, ◌==◌, Option, codes, decimal, slice_get, if◌then◌else◌}
+-- Theatres and surgeons by days: the minutes of surgery beside their limit, and each patient with its minutes and with
+-- the surgeon or the theatre.
+use Rattle.std.specs.Prelude.{ℕ, ◌*◌, ◌/◌, min, List, [], ◌++◌, ◌==◌, Option, Some, None, codes, decimal, slice_get, if◌then◌else◌}
 use Rattle.std.specs.Option.{option_map_or}
 use Rattle.ih_dates.specs.declared.dates.Date.{Date}
 use Rattle.ih_tables.specs.declared.drafts.Draft.{Draft}
 use Rattle.ih_tables.specs.declared.drafts.Patient.{Patient}
 use Rattle.ih_tables.specs.Sizes.{patient_count}
-use Rattle.ih_plan.specs.Timetable.{Timetable}
+use Rattle.ih_plan.specs.declared.moves.Placement.{Placement}
+use Rattle.ih_plan.specs.Timetable.{Timetable, stay_of}
 use Rattle.ih_plan.specs.Costs.{duration_of}
 use Rattle.ih_plan.specs.Sums.{sum_below, count_below}
 use Rattle.ih_validate.specs.Report.{lines_below}
@@ -14,7 +16,7 @@ use Rattle.ih_validate.specs.declared.surgery.ResourceKind.{ResourceKind}
 use Rattle.ih_validate.specs.declared.surgery.ResourceKind.TheVariants.{Theatres, Surgeons}
 use Rattle.ih_validate.specs.declared.surgery.Resource.{Resource}
 use Rattle.ih_validate.specs.declared.surgery.Resource.TheVariants.{OfTheatre, OfSurgeon}
-use Rattle.ih_page.specs.Html.{numbered}
+use Rattle.ih_page.specs.Html.{labelled, numbered}
 use Rattle.ih_page.specs.DayHeads.{table_head}
 use Rattle.ih_page.specs.Rooms.{theatre_name, surgeon_name, marked, td_at}
 
@@ -62,9 +64,25 @@ name_link p a = numbered (codes " <a href=#p") p (codes ">") a.id ++ codes "</a>
 abbrev pub patient_link : Draft → ℕ → List ℕ
 patient_link I p = option_map_or (name_link p) (slice_get I.patients p) []
 
--- patient p's name, where it has surgery there on day d
+-- who operates on patient a, in a theatre's list; where, in a surgeon's
+abbrev pub counterpart_name : Draft → Resource → Placement → Patient → List ℕ
+counterpart_name I (OfTheatre t) at a = surgeon_name I a.surgeon_id.0
+counterpart_name I (OfSurgeon s) at a = theatre_name I at.theatre.0
+
+-- a patient's surgery in a line: the name, the minutes, and the surgeon or the theatre
+unfoldable pub operation_line : Draft → Resource → ℕ → Placement → Patient → List ℕ
+operation_line I w p at a =
+    codes "<p>" ++ (name_link p a ++ (labelled (codes " ") a.surgery_duration
+    ++ (codes "&nbsp;" ++ counterpart_name I w at a)))
+
+-- that line of patient p, where it is admitted
+abbrev pub placed_line : Draft → Resource → ℕ → Option Placement → List ℕ
+placed_line I w p None = []
+placed_line I w p (Some at) = option_map_or (operation_line I w p at) (slice_get I.patients p) []
+
+-- the same, where the patient has surgery there on day d
 abbrev pub operation : Draft → Timetable → Resource → ℕ → ℕ → List ℕ
-operation I P w d p = if has_surgery I P w d p then patient_link I p else []
+operation I P w d p = if has_surgery I P w d p then placed_line I w p (stay_of P p) else []
 
 -- the minutes of a day with so many surgeries and its patients, and nothing on a day without surgery
 abbrev pub surgery_of : Draft → Timetable → Resource → ℕ → ℕ → List ℕ
@@ -79,8 +97,10 @@ unfoldable pub surgery_row : Draft → Timetable → Resource → List ℕ
 surgery_row I P w = codes "<tr><th>" ++ (resource_name I w ++ (lines_below I.days (surgery_td I P w) ++ codes "\n"))
 
 abbrev pub heads_of : ResourceKind → List ℕ
-heads_of Theatres = codes "<h2>Theatres by days, in minutes</h2>\n<div><table><thead><tr><th>theatre"
-heads_of Surgeons = codes "<h2>Surgeons by days, in minutes</h2>\n<div><table><thead><tr><th>surgeon"
+heads_of Theatres =
+    codes "<h2>Theatres by days: minutes used of minutes open, and patients with minutes and surgeon</h2>\n<div><table><thead><tr><th>theatre"
+heads_of Surgeons =
+    codes "<h2>Surgeons by days: minutes used of minutes allowed, and patients with minutes and theatre</h2>\n<div><table><thead><tr><th>surgeon"
 
 -- the table of the theatres, or of the surgeons
 unfoldable pub surgery_text : Draft → Option Date → Timetable → ResourceKind → List ℕ

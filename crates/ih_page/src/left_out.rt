@@ -3,12 +3,13 @@
 ghost use Rattle.std.specs.Prelude.{◌≡◌, ◌<◌, ◌++◌, OnOk};
 ghost use Rattle.ih_tables.specs.Sizes.{patient_count};
 ghost use Rattle.ih_page.specs.LeftOut.{is_left_out, last_day, left_out, left_out_count, left_out_item, left_out_of};
-ghost use Rattle.ih_page.specs.LeftOut.{need_text, nobody_if, window_text};
+ghost use Rattle.ih_page.specs.LeftOut.{counted, demand_text, need_text, nobody_if, plural_of, window_text};
 
 use crate::day_heads::{put_day, put_day_behind};
+use crate::names::put_surgeon;
 use crate::shown::Shown;
-use crate::texts::{Put, put, put_numbered};
-use ih_tables::{Patient, PatientNo};
+use crate::texts::{Put, put, put_labelled, put_numbered};
+use ih_tables::{Instance, Patient, PatientNo};
 use ih_validate::bit;
 
 fn need_text(mandatory: bool) -> &'static str
@@ -35,17 +36,47 @@ fn put_window(out: &mut Vec<u8>, shown: &Shown<'_>, patient: &Patient) -> Put
     ensures { OnOk result (out.new.items ≡ out.old.items ++ window_text shown.now.first patient.now) }
 {
     put_day(out, shown, patient.surgery_release_day)?;
-    put_last_day(out, shown, patient.surgery_due_day)?;
+    put_last_day(out, shown, patient.surgery_due_day)
+}
+
+// The end of a word for so many things.
+fn plural_of(count: u32) -> &'static str
+    ensures { result.now ≡ plural_of count }
+{
+    if count == 1 { "" } else { "s" }
+}
+
+// Appends so many things after a text.
+#[tactic(auto, unfolding(crate::specs::LeftOut::counted))]
+fn put_counted(out: &mut Vec<u8>, text: &str, count: u32, thing: &str) -> Put
+    ensures { OnOk result (out.new.items ≡ out.old.items ++ counted text.now count thing.now) }
+{
+    put_labelled(out, text, count)?;
+    put(out, thing)?;
+    put(out, plural_of(count))
+}
+
+// Appends what the patient's admission would take: days of stay, minutes of surgery, and the surgeon.
+#[tactic(auto, unfolding(crate::specs::LeftOut::demand_text))]
+fn put_demand(out: &mut Vec<u8>, inst: &Instance, patient: &Patient) -> Put
+    ensures { OnOk result (out.new.items ≡ out.old.items ++ demand_text inst.now.draft patient.now) }
+{
+    put_counted(out, ", stays ", patient.length_of_stay, " day")?;
+    put_counted(out, ", ", patient.surgery_duration, " minute")?;
+    put(out, " by surgeon ")?;
+    put_surgeon(out, inst, patient.surgeon_id)?;
     put(out, "\n")
 }
 
 fn put_item(out: &mut Vec<u8>, shown: &Shown<'_>, patient_no: u32, patient: &Patient) -> Put
-    ensures { OnOk result (out.new.items ≡ out.old.items ++ left_out_item shown.now.first patient_no patient.now) }
+    ensures { OnOk result (out.new.items ≡ out.old.items
+        ++ left_out_item shown.now.inst.now.draft shown.now.first patient_no patient.now) }
 {
     put_numbered(out, "<li id=p", patient_no, ">", patient.id.as_str())?;
     put(out, ": ")?;
     put(out, need_text(patient.mandatory))?;
-    put_window(out, shown, patient)
+    put_window(out, shown, patient)?;
+    put_demand(out, shown.inst, patient)
 }
 
 fn put_item_of(out: &mut Vec<u8>, shown: &Shown<'_>, patient: u32) -> Put

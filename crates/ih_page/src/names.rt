@@ -5,7 +5,6 @@ ghost use Rattle.ih_tables.specs.{
   declared.ids.NurseNo.NurseNo,
   Sizes.nurse_count,
   Sizes.room_count,
-  Sizes.surgeon_count,
   Sizes.theatre_count,
 };
 ghost use Rattle.ih_page.specs.Rooms.{age_name, room_name, theatre_name, surgeon_name, shift_type_name, nurse_name};
@@ -51,10 +50,12 @@ pub fn put_theatre(out: &mut Vec<u8>, inst: &Instance, theatre: TheatreNo) -> Pu
 
 /// Appends the name of a surgeon.
 pub fn put_surgeon(out: &mut Vec<u8>, inst: &Instance, surgeon: SurgeonNo) -> Put
-    requires { surgeon.0 < surgeon_count inst.now.draft }
     ensures { OnOk result (out.new.items ≡ out.old.items ++ surgeon_name inst.now.draft surgeon.0) }
 {
-    put_isolated(out, inst.surgeon(surgeon).id.as_str())
+    match inst.draft.surgeons.as_slice().get(surgeon.0 as usize) {
+        None => Ok(()),
+        Some(found) => put_isolated(out, found.id.as_str()),
+    }
 }
 
 /// Appends the name of a nurse, where there is one.

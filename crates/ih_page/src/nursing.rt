@@ -154,7 +154,7 @@ pub fn put_nurses(out: &mut Vec<u8>, shown: &Shown<'_>) -> Put
     put_heads_and_days(
         out,
         shown,
-        "<h2>Nurses by shifts: workload of the maximum, and rooms</h2>\n<div><table><thead><tr><th>nurse<th>skill",
+        "<h2>Nurses by shifts: workload of the maximum, and rooms</h2>\n<p>empty: off; ! above the maximum; ! with off: off, but given a room</p>\n<div><table><thead><tr><th>nurse<th>skill",
         "<th colspan=3>",
     )?;
     put_shift_heads(out, shown)?;

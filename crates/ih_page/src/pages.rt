@@ -79,19 +79,21 @@ tr>th:first-child{position:sticky;left:0;background:var(--bg)}\n\
 td[id^=n] bdi{font-weight:normal}\n\
 td[id^=n]:nth-child(3n+2){border-right-color:var(--fg)}\n\
 i{display:block;height:4px;background:var(--bar)}\n\
+td p{margin:0}\n\
 ul{columns:24em;column-gap:2em;margin:.3rem 0;padding:0;list-style:none}\n\
+h3:has(+ul):not(:has(+ul li)),h3:has(+table){display:none}\n\
 li{padding-left:1em;text-indent:-1em;break-inside:avoid}\n\
 summary{font-weight:bold}\n\
 .m{opacity:.7}\n\
 :target{outline:3px solid var(--bad)}\n\
 @media(max-width:600px){body{font-size:12px;margin:.5rem}.v th:first-child{white-space:normal;min-width:7em}}\n\
-@page{size:landscape;margin:9mm}\n\
-@media print{body{font-size:7.5pt;line-height:1.25;margin:0;print-color-adjust:exact}a{text-decoration:none}p:has(a){display:none}div{overflow:visible}ul{columns:22em;column-gap:1em}ul:not(:has(li)){display:none}bdi{display:inline-block;text-indent:0}h1,h2,h3,summary,main>p,thead{break-after:avoid}h2:has(+p+section),#index{break-before:page}section,thead,tr,.c,.s{break-inside:avoid}summary{list-style:none}details:not([id^=S])::details-content{content-visibility:visible;display:block}details[id^=S]:not([open]),#wrong:not(:has(~[open])){display:none}\n\
-div table{table-layout:fixed;width:100%}div td,div th{white-space:normal;overflow-wrap:anywhere;text-wrap:balance;padding:0 2px}td[id^=n]{font-size:6.5pt;padding:1px 1px 0}.x{outline-width:1px;outline-offset:-1px}td[id^=t],td[id^=g],.v [class] a{word-break:break-all}td[id] a{word-break:normal}\n\
+@page{size:landscape;margin:9mm;@bottom-right{content:counter(page)' / 'counter(pages);font:7pt sans-serif}}\n\
+@media print{body{font-size:7.5pt;line-height:1.25;margin:0;print-color-adjust:exact}a{text-decoration:none}main>p:has(a){display:none}div{overflow:visible}ul{columns:22em;column-gap:1em}ul:not(:has(li)){display:none}bdi{display:inline-block;text-indent:0}h1,h2,h3,summary,main>p,thead{break-after:avoid}h2:has(+p+section,+p+div,+div [id^=t],+div [id^=g]),#index{break-before:page}section,thead,tr,.c,.s{break-inside:avoid}summary{list-style:none}details:not([id^=S])::details-content{content-visibility:visible;display:block}details[id^=S]:not([open]),#wrong:not(:has(~[open])){display:none}\n\
+div table{table-layout:fixed;width:100%}div td,div th{white-space:normal;overflow-wrap:anywhere;text-wrap:balance;padding:0 2px}td[id^=n]{font-size:6.5pt;padding:1px 1px 0}.x{outline-width:1px;outline-offset:-1px}td[id^=t],td[id^=g],.v [class] a{word-break:break-all}td p{word-break:normal}td p bdi{display:inline}td p a{font-weight:bold}\n\
 section th:nth-child(-n+4){width:5em}thead th:first-child{width:8em}.v th:first-child{width:10em}th:nth-child(2):has(+[colspan]){width:3em}\n\
-body:has(.v th:nth-child(9)){td[id^=n],thead tr+tr>th+th{writing-mode:vertical-rl;white-space:nowrap;text-align:left;padding:2px 2px 2px 0}td[id^=n] br{display:none}}\n\
-body:has(.v th:nth-child(16)){div table{font-size:7pt}.v td,td[id^=t],td[id^=g]{padding:0 1px}td[id^=t],td[id^=g],thead tr+tr>th+th{font-size:6pt}.v td,td[id^=n]{font-size:5.5pt}td[id^=n],thead tr+tr>th+th{padding-right:1px}}\n\
-body:has(.v th:nth-child(30)){.v td,td[id^=s],td[id^=t],td[id^=g]{writing-mode:vertical-rl;text-align:left}i{display:none}div th+th{font-size:5pt;padding:0}table:has([id^=n]) tr{display:grid;grid-template-columns:8em 3em repeat(84,1fr);th,td{min-width:0;width:auto!important}[colspan]{grid-column:span 3}:nth-child(-n+2){grid-row:1/3}}}}\n\
+body:has(.v th:nth-child(9)){td[id^=n],thead tr+tr>th+th{writing-mode:vertical-rl;white-space:nowrap;text-align:left;padding:2px 2px 2px 0}td[id^=n] br{display:none}section thead th+th{word-spacing:9em}}\n\
+body:has(.v th:nth-child(16)){div table{font-size:7pt}.v td,td[id^=t],td[id^=g]{padding:0 1px}td[id^=t],td[id^=g],thead tr+tr>th+th{font-size:6pt}.v td,td[id^=n]{font-size:5.5pt}td[id^=n],thead tr+tr>th+th{padding-right:1px}thead tr:first-child>th+th{word-spacing:9em}}\n\
+body:has(.v th:nth-child(30)){.v td,td[id^=s],td[id^=t],td[id^=g]{writing-mode:vertical-rl;text-align:left}i{display:none}td p{display:inline}div th+th{font-size:5pt;letter-spacing:-.3pt;padding:0}section th+th:nth-child(-n+4){width:4.5em}table:has([id^=n]) tr{display:grid;grid-template-columns:8em 3em repeat(84,1fr);th,td{min-width:0;width:auto!important}[colspan]{grid-column:span 3}:nth-child(-n+2){grid-row:1/3}}}}\n\
 </style>\n\
 <main>\n"
 }

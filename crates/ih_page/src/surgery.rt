@@ -2,15 +2,18 @@
 
 ghost use Rattle.std.specs.Prelude.{◌≡◌, ◌<◌, ◌≤◌, ◌*◌, ◌++◌, OnOk};
 ghost use Rattle.ih_tables.specs.Sizes.{patient_count};
+ghost use Rattle.ih_plan.specs.Timetable.{IsPlacement, stay_of};
 ghost use Rattle.ih_validate.specs.{Report.lines_below, Surgery.IsResourceOf};
 ghost use Rattle.ih_page.specs.Surgery.{minutes_of, planned, surgery_count, letter_of, number_of, resource_name};
 ghost use Rattle.ih_page.specs.Surgery.{heads_of, surgery_text, percent_of, percent_text, name_link, minutes_text};
-ghost use Rattle.ih_page.specs.Surgery.{patient_link, operation, surgery_of, surgery_td, surgery_row};
+ghost use Rattle.ih_page.specs.Surgery.{patient_link, counterpart_name, operation_line, placed_line, operation};
+ghost use Rattle.ih_page.specs.Surgery.{surgery_of, surgery_td, surgery_row};
 
 use crate::day_heads::put_table_head;
 use crate::names::{put_marked, put_surgeon, put_td_at, put_theatre};
 use crate::shown::Shown;
-use crate::texts::{Put, put, put_number, put_numbered};
+use crate::texts::{Put, put, put_labelled, put_number, put_numbered};
+use ih_plan::Placement;
 use ih_tables::{Instance, Patient, PatientNo};
 use ih_validate::{Resource, ResourceKind, bit, count_of, has_surgery, limit_of, one_of};
 
@@ -132,6 +135,63 @@ pub fn put_link(out: &mut Vec<u8>, inst: &Instance, patient: u32) -> Put
     put_name(out, patient, inst.patient(PatientNo(patient)))
 }
 
+// Appends who operates, in a theatre's list, or where, in a surgeon's.
+fn put_counterpart(
+    out: &mut Vec<u8>,
+    inst: &Instance,
+    resource: Resource,
+    at: Placement,
+    patient: &Patient,
+) -> Put
+    requires { IsPlacement inst.now.draft at }
+    ensures { OnOk result
+        (out.new.items ≡ out.old.items ++ counterpart_name inst.now.draft resource at patient.now) }
+{
+    match resource {
+        Resource::OfTheatre(_) => put_surgeon(out, inst, patient.surgeon_id),
+        Resource::OfSurgeon(_) => put_theatre(out, inst, at.theatre),
+    }
+}
+
+#[tactic(auto, unfolding(crate::specs::Surgery::operation_line))]
+fn put_operation_line(
+    out: &mut Vec<u8>,
+    inst: &Instance,
+    resource: Resource,
+    patient_no: u32,
+    at: Placement,
+    patient: &Patient,
+) -> Put
+    requires { IsPlacement inst.now.draft at }
+    ensures { OnOk result
+        (out.new.items ≡ out.old.items ++ operation_line inst.now.draft resource patient_no at patient.now) }
+{
+    put(out, "<p>")?;
+    put_name(out, patient_no, patient)?;
+    put_labelled(out, " ", patient.surgery_duration)?;
+    put(out, "&nbsp;")?;
+    put_counterpart(out, inst, resource, at, patient)
+}
+
+// Appends the patient's line, where the patient is admitted.
+fn put_placed_line(out: &mut Vec<u8>, shown: &Shown<'_>, resource: Resource, patient: u32) -> Put
+    requires patient { patient < patient_count shown.now.inst.now.draft }
+    ensures { OnOk result (out.new.items ≡ out.old.items
+        ++ placed_line shown.now.inst.now.draft resource patient (stay_of shown.now.plan.now patient)) }
+{
+    match shown.plan.stay(PatientNo(patient)) {
+        None => Ok(()),
+        Some(at) => put_operation_line(
+            out,
+            shown.inst,
+            resource,
+            patient,
+            at,
+            shown.inst.patient(PatientNo(patient)),
+        ),
+    }
+}
+
 fn put_operation(
     out: &mut Vec<u8>,
     shown: &Shown<'_>,
@@ -144,7 +204,7 @@ fn put_operation(
         (out.new.items ≡ out.old.items ++ operation shown.now.inst.now.draft shown.now.plan.now resource day patient) }
 {
     if has_surgery(shown.inst, shown.plan, resource, day, PatientNo(patient)) {
-        put_link(out, shown.inst, patient)
+        put_placed_line(out, shown, resource, patient)
     } else {
         Ok(())
     }
@@ -217,9 +277,9 @@ fn heads_of(kind: ResourceKind) -> &'static str
 {
     match kind {
         ResourceKind::Theatres =>
-            "<h2>Theatres by days, in minutes</h2>\n<div><table><thead><tr><th>theatre",
+            "<h2>Theatres by days: minutes used of minutes open, and patients with minutes and surgeon</h2>\n<div><table><thead><tr><th>theatre",
         ResourceKind::Surgeons =>
-            "<h2>Surgeons by days, in minutes</h2>\n<div><table><thead><tr><th>surgeon",
+            "<h2>Surgeons by days: minutes used of minutes allowed, and patients with minutes and theatre</h2>\n<div><table><thead><tr><th>surgeon",
     }
 }
 

@@ -99,16 +99,39 @@ type Look = (
 
 const UNCHANGED: (&str, &str) = (NOTHING, "");
 
-// A surgery of 0 minutes makes a day one with surgery. A nurse who is off is marked where an empty room is given. An id
-// that turns what follows ends where it stands.
-const LOOKS: [Look; 3] = [
+// A surgery of 0 minutes makes a day one with surgery. Two on a day stand one after the other, also above the limit. A
+// mandatory patient who is left out stands with window, stay and minutes. A nurse who is off is marked where an empty
+// room is given. An id that turns what follows ends where it stands.
+const LOOKS: [Look; 5] = [
     (
         ("\"surgery_duration\":60", "\"surgery_duration\":0"),
         UNCHANGED,
         &[
             "<li><a href=#t0-0>theatre <bdi>t0</bdi>, day 0</a>: open\n",
-            "<td id=t0-0>0/60<i style=width:0%></i> <a href=#p0><bdi>p0</bdi></a><td id=t0-1>\n",
-            "<td id=g0-0>0/100<i style=width:0%></i> <a href=#p0><bdi>p0</bdi></a><td id=g0-1>\n",
+            "<td id=t0-0>0/60<i style=width:0%></i><p> <a href=#p0><bdi>p0</bdi></a> 0&nbsp;<bdi>s0</bdi><td id=t0-1>\n",
+            "<td id=g0-0>0/100<i style=width:0%></i><p> <a href=#p0><bdi>p0</bdi></a> 0&nbsp;<bdi>t0</bdi><td id=g0-1>\n",
+            "<li id=p1><bdi>p1</bdi>: optional, day 0 to end, stays 1 day, 40 minutes by surgeon <bdi>s0</bdi>\n",
+        ],
+    ),
+    (
+        UNCHANGED,
+        (
+            r#"{"id":"p1","admission_day":"none"}"#,
+            r#"{"id":"p1","admission_day":0,"room":"r1","operating_theater":"t0"}"#,
+        ),
+        &[
+            "<td id=t0-0 class=x>!100/60<i style=width:100%></i><p> <a href=#p0><bdi>p0</bdi></a> 60&nbsp;<bdi>s0</bdi><p> <a href=#p1><bdi>p1</bdi></a> 40&nbsp;<bdi>s0</bdi><td id=t0-1>\n",
+            "<td id=g0-0>100/100<i style=width:100%></i><p> <a href=#p0><bdi>p0</bdi></a> 60&nbsp;<bdi>t0</bdi><p> <a href=#p1><bdi>p1</bdi></a> 40&nbsp;<bdi>t0</bdi><td id=g0-1>\n",
+        ],
+    ),
+    (
+        ("\"surgery_duration\":60", "\"surgery_duration\":1"),
+        (
+            r#""admission_day":0,"room":"r0","operating_theater":"t0""#,
+            r#""admission_day":"none""#,
+        ),
+        &[
+            "<li id=p0><bdi>p0</bdi>: <b>mandatory</b>, day 0 to 1, stays 5 days, 1 minute by surgeon <bdi>s0</bdi>\n",
         ],
     ),
     (
