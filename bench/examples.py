@@ -1,7 +1,7 @@
 #!/usr/bin/env python3
-"""Checks the examples of the documents: docs/FORMATS.md shows the files of examples/ byte for byte, and the program
-accepts them and prints and writes what FORMATS and README show. Prints what is wrong; the exit status is 1 if anything
-is, and 2 if there is no program.
+"""Checks the examples of the documents: docs/FORMATS.md shows the files of examples/ byte for byte, so does the test
+that reads them, and the program accepts them and prints and writes what FORMATS and README show. Prints what is wrong;
+the exit status is 1 if anything is, and 2 if there is no program.
 
     python3 bench/examples.py        by environment: IH (the program; else crates/ih_main/out/ih_main)
 """
@@ -13,6 +13,7 @@ import tempfile
 
 TOP = os.path.dirname(os.path.dirname(os.path.abspath(__file__)))
 EXAMPLES = os.path.join(TOP, "examples")
+TEST = "crates/ih_format_tests/src/tests/examples.rt"
 IH = os.environ.get("IH", os.path.join(TOP, "crates/ih_main/out/ih_main"))
 
 
@@ -33,12 +34,27 @@ def run(folder, words):
     return subprocess.run([os.path.abspath(IH), *names], cwd=folder, capture_output=True, text=True).stdout
 
 
+def other_texts(formats):
+    """What FORMATS or the test doesn't show as it is: a file of examples/, or the report."""
+    test = read(TEST)
+    for name, block in shown_files(formats):
+        if block != read("examples", name):
+            yield f"docs/FORMATS.md doesn't show examples/{name} as it is"
+        if f'r#"{block}"#' not in test:
+            yield f"{TEST} has another {name}"
+    if f'r#"{report_in(formats)}"#' not in test:
+        yield f"{TEST} has another report"
+
+
+def report_in(formats):
+    return re.search(r"```\n(V1 .*?cost \d+\n)```", formats, flags=re.S).group(1)
+
+
 def calls(formats, readme):
     """Each call of a document, what it prints, and a file that it writes with the bytes that this has then."""
-    report = re.search(r"```\n(V1 .*?cost \d+\n)```", formats, flags=re.S).group(1)
     journal = dict(shown_files(formats))["small.journal"]
     options = re.search(r"small\.journal (--seed .*?) \\\n\s+(--start \S+)", formats)
-    yield "check examples/small_ward.json examples/small_plan.json", report, None
+    yield "check examples/small_ward.json examples/small_plan.json", report_in(formats), None
     words = "examples/small_ward.json plan.json small.journal " + " ".join(options.groups())
     yield "solve " + words, None, ("small.journal", journal)
     yield "replay examples/small_ward.json examples/small.journal again.json " + options.group(2), None, None
@@ -50,8 +66,7 @@ def calls(formats, readme):
 
 def main():
     formats, readme = read("docs/FORMATS.md"), read("README.md")
-    wrong = [name for name, block in shown_files(formats) if block != read("examples", name)]
-    wrong = [f"docs/FORMATS.md doesn't show examples/{name} as it is" for name in wrong]
+    wrong = list(other_texts(formats))
     if not os.access(IH, os.X_OK):
         print("\n".join(wrong + [f"no program at {IH}: build it, or name it by IH"]))
         return 2
