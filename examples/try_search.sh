@@ -2,13 +2,17 @@
 # Tries search.sh: each refusal, interrupts, other programs that write OUT, a full device, a folder without write
 # permission; spaces are in every path. Takes about two minutes.
 #   examples/try_search.sh
-# IH and PLANNER name the programs. A small tmpfs and a user without rights are tried where the script runs as root.
+# IH and PLANNER name the programs. Wanted: gnuplot, GNU parallel, rsync. A small tmpfs and a user without rights are
+# tried where the script runs as root.
 set -u -o pipefail
 here=$(cd "$(dirname "$0")" && pwd)
 crates=$(dirname "$here")/crates
 export IH=${IH:-$crates/ih_main/out/ih_main} PLANNER=${PLANNER:-$crates/ih_planner/out/ih_planner}
 for program in "$IH" "$PLANNER"; do
   [ -x "$program" ] || { echo "no program at $program: see run.sh, or name them by IH and PLANNER" >&2; exit 2; }
+done
+for tool in gnuplot parallel rsync; do
+  command -v "$tool" >/dev/null || { echo "$tool is wanted (Debian's packages: gnuplot-nox, parallel, rsync)" >&2; exit 2; }
 done
 room=$(mktemp -d "${TMPDIR:-/tmp}/try search.XXXXXX") || exit 2
 small=''

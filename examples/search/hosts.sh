@@ -60,7 +60,9 @@ run_stretch() {
   local k=$1 words=$2 run given=(--return plan.json)
   cd "$work/host.$k" || exit 1
   rm -f plan.json said complaints
-  run="rm -f plan.json; tar -xf kit.tar; IH=./ih PLANNER=./ih_planner bash search.sh $words; echo status \$?"
+  # what a stretch leaves if it is ended stands in its folder, which goes too
+  run="rm -f plan.json; tar -xf kit.tar; TMPDIR=\$PWD IH=./ih PLANNER=./ih_planner bash search.sh $words"
+  run="$run; echo status \$?"
   if [ "${host[k]}" = : ]; then
     exec timeout -k 10 "${limit[k]}" bash -c "$run" >said 2>complaints
   fi
