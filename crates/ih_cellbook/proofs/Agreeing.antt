@@ -11,7 +11,7 @@ use Rattle.ih_journal.specs.declared.entries.Verdict.{Verdict}
 use Rattle.ih_journal.specs.declared.entries.Verdict.TheVariants.{Accepted, Declined, Frozen}
 use Rattle.ih_journal.specs.Settings.{theta}
 use Rattle.ih_journal.specs.Base.{Base}
-use Rattle.ih_journal.specs.Frozen.{is_frozen_write}
+use Rattle.ih_plan.specs.Frozen.{is_frozen_write}
 use Rattle.ih_journal.specs.Frozen.{AgreesBefore, is_frozen}
 use Rattle.ih_journal.specs.History.{after_entries, is_accepted, plan_after, plan_at}
 use Rattle.ih_journal.specs.Legal.{IsLegalButDraw, first_touched, stale_or_accepted, verdict_on}

@@ -17,3 +17,7 @@ pub mod TimesRead
 pub mod Unfrozen
 pub mod Versions
 pub mod Within
+pub mod EntrySteps
+pub mod LegalEntries
+pub mod MoveSteps
+pub mod WriteSteps

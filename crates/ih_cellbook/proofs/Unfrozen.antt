@@ -11,7 +11,7 @@ use Rattle.ih_plan.specs.Timetable.{Timetable, stay_of}
 use Rattle.ih_plan.specs.Presence.{day_of}
 use Rattle.ih_plan.specs.Expand.{expand}
 use Rattle.ih_plan.specs.Series.{expand_all}
-use Rattle.ih_journal.specs.Frozen.{is_before, is_frozen_write}
+use Rattle.ih_plan.specs.Frozen.{is_before, is_frozen_write}
 
 pub none-before : (stay : Option Placement) → is_before 0 stay ≡ false
 none-before None = refl

@@ -1,5 +1,6 @@
 //! The book that workers share: it takes offers priced on older copies. Of those neither frozen nor declined it accepts
-//! exactly the ones of whose footprint no accepted entry has touched a cell since.
+//! exactly the ones of whose footprint no accepted entry has touched a cell since. Also what its entries stand for: the
+//! text of their journal, and the timetable at each of their places.
 #![tactic(auto)]
 
 mod best;
@@ -7,10 +8,12 @@ mod books;
 mod buffers;
 mod counters;
 mod entry_kinds;
+mod journals;
 mod laws;
 mod news;
 mod offers;
 mod parts;
+mod plans;
 mod reads;
 mod replicates;
 mod sharing;
@@ -21,6 +24,7 @@ pub use books::Book;
 pub use buffers::Buffer;
 pub use counters::raise_read;
 pub use entry_kinds::{Attempted, Logged, Offers};
+pub use journals::{journal_text, put_journal};
 pub use laws::{
     accepted_prices_are_exact, journals_tell_searches_apart, legal_histories_are_few,
     legal_histories_are_in_range, legal_journals_are_short, right_offers_stay_right,
@@ -28,6 +32,7 @@ pub use laws::{
 };
 pub use news::News;
 pub use offers::Offer;
+pub use plans::plan_at;
 pub use reads::Reads;
 pub use replicates::{Opens, Replicates};
 pub use sharing::{Basis, Try};

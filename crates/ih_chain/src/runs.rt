@@ -8,8 +8,7 @@ ghost use Rattle.ih_chain.specs.{Entries.chain_tries, Runs.IsRunOf};
 
 use crate::entries::ChainEntry;
 use crate::texts::chain_journal_text;
-use ih_cellbook::Book;
-use ih_history::plan_at;
+use ih_cellbook::{Book, plan_at};
 use ih_journal::Options;
 use ih_plan::Plan;
 use ih_tables::Instance;

@@ -150,19 +150,6 @@ impl<'a> Ledgers<'a> {
         put_all(self.inst, &mut self.cells, self.scratch.writes.as_slice());
     }
 
-    /// Makes a move. In place of what was listed there, `foot` has the cells that the move touched, rising: those of
-    /// its footprint at the timetable before it. It sums no costs. For users of the crate.
-    pub fn play_noting(&mut self, mv: &Move, foot: &mut CellList)
-        requires move_in { IsMoveOf self.old.instance mv.now }
-        requires sizes { foot.old.sizes ≡ sizes_of self.old.instance }
-        ensures made { self.new ≡ record self.old { plan = after self.old.instance self.old.plan mv.now } }
-        ensures cells { foot.new.cells ≡ footprint self.old.instance self.old.plan mv.now }
-        ensures sizes { foot.new.sizes ≡ foot.old.sizes }
-    {
-        self.foot(mv, foot);
-        self.play(mv);
-    }
-
     /// What a move would add to the bill, number by number: each is at most 10^11 in magnitude. In place of what was
     /// listed there, `foot` has the cells of the move's footprint, rising. The ledgers stand for the same timetable as
     /// before.
@@ -203,23 +190,8 @@ impl<'a> Ledgers<'a> {
         foot_of(self.inst, &self.cells, &mut self.scratch, mv, foot);
     }
 
-    /// What moves in a row would add to the bill together, number by number: each is at most 10^11 in magnitude. In
-    /// place of what was listed there, `foot` has the cells of their footprints, each move's at the timetable where it
-    /// would be made, rising. The ledgers stand for the same timetable as before. For users of the crate.
-    pub fn price_all(&mut self, moves: &[Move], foot: &mut CellList) -> Bill
-        requires moves { AreMoves self.old.instance moves.now }
-        requires sizes { foot.old.sizes ≡ sizes_of self.old.instance }
-        ensures price { result ≡ price_of_all self.old.instance self.old.plan moves.now }
-        ensures within { IsWithin (10 ^ 11) result }
-        ensures cells { foot.new.cells ≡ footprint_of_all self.old.instance self.old.plan moves.now }
-        ensures sizes { foot.new.sizes ≡ foot.old.sizes }
-        ensures same { self.new ≡ self.old }
-    {
-        self.foot_all(moves, foot);
-        self.price_all_alone(moves)
-    }
-
-    /// The same without the footprints, which `foot_all` tells. A single move is priced as one.
+    /// What moves in a row would add to the bill together, number by number: each is at most 10^11 in magnitude. The
+    /// ledgers stand for the same timetable as before. A single move is priced as one.
     pub fn price_all_alone(&mut self, moves: &[Move]) -> Bill
         requires { AreMoves self.old.instance moves.now }
         ensures price { result ≡ price_of_all self.old.instance self.old.plan moves.now }

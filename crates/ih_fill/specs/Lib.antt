@@ -1,6 +1,7 @@
 pub mod Candidates
 pub mod Choices
 pub mod Fill
+pub mod Starts
 pub mod FirstLeast
 pub mod Laws
 pub mod ScorerState

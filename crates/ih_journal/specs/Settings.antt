@@ -1,7 +1,8 @@
 -- The limits of a search's options, and what its heat allows.
 use Rattle.std.specs.Prelude.{ℕ, ◌+◌, ◌-◌, ◌*◌, ◌/◌, ◌≤◌, ℤ, pos}
 use Rattle.ih_journal.specs.declared.settings.Options.{Options}
-use Rattle.ih_journal.specs.declared.settings.TheConstants.{MAX_ENTRIES, MAX_HARD, MAX_HEAT, MAX_MOVES, MAX_RETRIES, MAX_WORKERS}
+use Rattle.ih_plan.specs.declared.limits.TheConstants.{MAX_HARD, MAX_HEAT, MAX_WORKERS}
+use Rattle.ih_journal.specs.declared.settings.TheConstants.{MAX_ENTRIES, MAX_MOVES, MAX_RETRIES}
 
 -- the most entries that a journal comes to have: one for each try of each move of each worker
 abbrev pub most_entries : Options → ℕ

@@ -2,7 +2,6 @@
 #![tactic(auto)]
 
 mod entries;
-mod freeze;
 mod headings;
 mod laws;
 mod lines;
@@ -10,19 +9,18 @@ mod named;
 mod numerals;
 mod parse;
 mod reading;
-mod refusals;
 mod settings;
 mod small_numbers;
 mod texts;
 mod writing;
 
 pub use entries::{Entry, Verdict};
-pub use freeze::frozen;
 pub use headings::parse_head;
+pub use ih_plan::{MAX_HARD, MAX_HEAT, MAX_WORKERS, frozen};
+pub use ih_tables::{JournalRefusal, Reason};
 pub use laws::lone_workers_have_one_history;
 pub use lines::{LineRoom, head_line, line, put_option};
 pub use parse::{BadLine, journals_differ, parse_line};
 pub use reading::parse_move;
-pub use refusals::{JournalRefusal, Reason};
-pub use settings::{MAX_ENTRIES, MAX_HARD, MAX_HEAT, MAX_MOVES, MAX_RETRIES, MAX_WORKERS, Options};
+pub use settings::{MAX_ENTRIES, MAX_MOVES, MAX_RETRIES, Options};
 pub use texts::{named_text, price_text, text, verdict_text};

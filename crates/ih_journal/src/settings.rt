@@ -1,13 +1,9 @@
 //! The options of a search, and their limits.
 
-/// The most workers of a search. There is at least one.
-pub const MAX_WORKERS: u32 = 64;
+use ih_plan::{MAX_HARD, MAX_HEAT, MAX_WORKERS};
+
 /// The most moves of one worker.
 pub const MAX_MOVES: u32 = 1_000_000;
-/// The highest heat.
-pub const MAX_HEAT: u32 = 1_000_000;
-/// The highest weight of a broken hard rule.
-pub const MAX_HARD: u32 = 1_000_000;
 /// The most retries of one move.
 pub const MAX_RETRIES: u32 = 7;
 /// The most entries that a journal may come to have.

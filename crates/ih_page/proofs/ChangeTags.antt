@@ -1,7 +1,7 @@
 -- The tags of what changed are the page's own, and its head gives its id.
 use Rattle.std.proofs.Common.{ℕ, codes, refl, Option}
 use Rattle.std.specs.Prelude.{ℤ, ◌*ℤ◌}
-use Rattle.ih_dates.specs.declared.dates.Date.{Date}
+use Rattle.jiff.specs.Types.{Date}
 use Rattle.ih_tables.specs.declared.bills.Bill.{Bill}
 use Rattle.ih_tables.specs.declared.bills.Weights.{Weights}
 use Rattle.ih_tables.specs.declared.drafts.Draft.{Draft}

@@ -1,8 +1,9 @@
 -- The tags of days are the page's own.
 use Rattle.std.proofs.Common.{ℕ, codes, refl, List, Option, Some, None}
-use Rattle.ih_dates.specs.declared.dates.Date.{Date}
-use Rattle.ih_dates.specs.Names.{month_name, weekday_name}
+use Rattle.jiff.specs.Types.{Date}
+use Rattle.jiff_fmt.specs.Temporal.{DateParts}
 use Rattle.ih_tables.specs.declared.drafts.Draft.{Draft}
+use Rattle.ih_page.specs.Dates.{month_name, weekday_name}
 use Rattle.ih_page.specs.Html.{labelled}
 use Rattle.ih_page.specs.DayHeads.{beside_if, date_text, dated_below, dated_beside, dated_if, dated_text, day_behind, day_head, day_text, heads_and_days, table_head}
 use Rattle.ih_page.proofs.Scans.{Own, all-below, by_pieces}
@@ -16,19 +17,19 @@ weekday : (n : ℕ) → Own (weekday_name n)
 unfolding weekday_name
 weekday n ids = simp by_pieces refl
 
-dated : (first : Date) (d : ℕ) → Own (dated_text first d)
+dated : (date : DateParts) → Own (dated_text date)
 unfolding dated_text date_text
-dated first d ids = simp (by_pieces, names_and_numbers, month, weekday) refl
+dated date ids = simp (by_pieces, names_and_numbers, month, weekday) refl
 
-below : (first : Option Date) (d : ℕ) → Own (dated_if first d)
+below : (date : Option DateParts) → Own (dated_if date)
 unfolding dated_below
-below None d ids = refl
-below (Some first) d ids = simp (by_pieces, dated) refl
+below None ids = refl
+below (Some date) ids = simp (by_pieces, dated) refl
 
-beside : (first : Option Date) (d : ℕ) → Own (beside_if first d)
+beside : (date : Option DateParts) → Own (beside_if date)
 unfolding dated_beside
-beside None d ids = refl
-beside (Some first) d ids = simp (by_pieces, dated) refl
+beside None ids = refl
+beside (Some date) ids = simp (by_pieces, dated) refl
 
 day : (first : Option Date) (d : ℕ) → Own (day_head first (codes "<th>") d)
 unfolding day_head labelled

@@ -1,6 +1,6 @@
 -- The tags of the index are the page's own, and its head gives its id.
 use Rattle.std.proofs.Common.{ℕ, codes, Option, Some, None, refl}
-use Rattle.ih_dates.specs.declared.dates.Date.{Date}
+use Rattle.jiff.specs.Types.{Date}
 use Rattle.ih_tables.specs.declared.drafts.Draft.{Draft}
 use Rattle.ih_plan.specs.declared.moves.Placement.{Placement}
 use Rattle.ih_plan.specs.Timetable.{Timetable}

@@ -1,6 +1,6 @@
 -- The tags of the patients who are left out are the page's own, and each item gives its patient's id.
 use Rattle.std.proofs.Common.{ℕ, Bool, true, false, refl, Option, Some, None}
-use Rattle.ih_dates.specs.declared.dates.Date.{Date}
+use Rattle.jiff.specs.Types.{Date}
 use Rattle.ih_tables.specs.declared.drafts.Draft.{Draft}
 use Rattle.ih_tables.specs.declared.drafts.Patient.{Patient}
 use Rattle.ih_page.specs.Html.{labelled, numbered}

@@ -13,6 +13,7 @@ pub mod IdNumbers
 pub mod IdPlaces
 pub mod SummaryTags
 pub mod LeftOutTags
+pub mod DayNumbers
 pub mod DayTags
 pub mod RoomTags
 pub mod SurgeryTags

@@ -1,7 +1,7 @@
 -- The tags of the nurses are the page's own, and each cell gives its id.
 use Rattle.std.proofs.Common.{◌∙◌, ap, ℕ, [], ◌∷◌, ◌++◌, codes, refl, Option, Some, None}
 use Rattle.std.specs.Option.{option_map_or}
-use Rattle.ih_dates.specs.declared.dates.Date.{Date}
+use Rattle.jiff.specs.Types.{Date}
 use Rattle.ih_tables.specs.declared.drafts.Draft.{Draft}
 use Rattle.ih_tables.specs.declared.drafts.Nurse.{Nurse}
 use Rattle.ih_tables.specs.Works.{max_load}

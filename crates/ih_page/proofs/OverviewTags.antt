@@ -1,6 +1,6 @@
 -- The tags of the overview are the page's own.
 use Rattle.std.proofs.Common.{ℕ, ◌+◌, ◌*◌, codes, refl, Option, Some, None}
-use Rattle.ih_dates.specs.declared.dates.Date.{Date}
+use Rattle.jiff.specs.Types.{Date}
 use Rattle.ih_tables.specs.declared.drafts.Draft.{Draft}
 use Rattle.ih_tables.specs.Works.{max_load}
 use Rattle.ih_plan.specs.Timetable.{Timetable}

@@ -3,7 +3,7 @@ use Rattle.std.proofs.Common.{◌≡◌, ◌∙◌, refl, sym, ap, arith, subst,
 use Rattle.std.specs.Prelude.{◌==◌, ℤ, pos, negsuc, decimal}
 use Rattle.std.specs.Fmt.{signed_decimal}
 use Rattle.std.specs.List.{AllByRecursion}
-use Rattle.ih_dates.specs.declared.dates.Date.{Date}
+use Rattle.jiff.specs.Types.{Date}
 use Rattle.ih_tables.specs.declared.bills.Bill.{Bill}
 use Rattle.ih_tables.specs.declared.bills.Weights.{Weights}
 use Rattle.ih_tables.specs.declared.drafts.Draft.{Draft}

@@ -1,7 +1,7 @@
 -- The tags of the rooms are the page's own, and rows and cells give their ids.
 use Rattle.std.proofs.Common.{ℕ, Bool, true, false, List, codes, refl, Option, Some, None}
 use Rattle.std.specs.Prelude.{slice_get}
-use Rattle.ih_dates.specs.declared.dates.Date.{Date}
+use Rattle.jiff.specs.Types.{Date}
 use Rattle.ih_tables.specs.declared.drafts.Draft.{Draft}
 use Rattle.ih_tables.specs.declared.drafts.Nurse.{Nurse}
 use Rattle.ih_tables.specs.declared.drafts.Occupant.{Occupant}

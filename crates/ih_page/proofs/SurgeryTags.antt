@@ -1,7 +1,7 @@
 -- The tags of theatres and surgeons are the page's own, and each cell gives its id.
 use Rattle.std.proofs.Common.{ℕ, refl, Option, Some, None}
 use Rattle.std.specs.Prelude.{slice_get}
-use Rattle.ih_dates.specs.declared.dates.Date.{Date}
+use Rattle.jiff.specs.Types.{Date}
 use Rattle.ih_tables.specs.declared.drafts.Draft.{Draft}
 use Rattle.ih_tables.specs.declared.drafts.Patient.{Patient}
 use Rattle.ih_plan.specs.declared.moves.Placement.{Placement}

@@ -1,7 +1,7 @@
 -- The tags of what breaks rules and what costs are the page's own, and each list's head gives its id.
 use Rattle.std.proofs.Common.{ℕ, ◌+◌, Bool, List, codes, refl, Option}
 use Rattle.std.specs.Prelude.{slice_index}
-use Rattle.ih_dates.specs.declared.dates.Date.{Date}
+use Rattle.jiff.specs.Types.{Date}
 use Rattle.ih_tables.specs.declared.bills.Bill.{Bill}
 use Rattle.ih_tables.specs.declared.cells.Cell.{Cell}
 use Rattle.ih_tables.specs.declared.cells.Cell.TheVariants.{Stay, RoomDay, TheatreDay, SurgeonDay, RoomShift, NurseShift, Care}

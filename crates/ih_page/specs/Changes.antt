@@ -2,7 +2,7 @@
 -- another nurse, and the cost.
 use Rattle.std.specs.Prelude.{ℕ, ℤ, ◌*ℤ◌, ◌==◌, ◌&&◌, nat_le, not, Bool, true, false, List, [], ◌++◌, Option, Some, None, codes, decimal, flat_map, if◌then◌else◌}
 use Rattle.std.specs.Fmt.{signed_decimal}
-use Rattle.ih_dates.specs.declared.dates.Date.{Date}
+use Rattle.jiff.specs.Types.{Date}
 use Rattle.ih_tables.specs.declared.bills.Bill.{Bill}
 use Rattle.ih_tables.specs.declared.bills.Weights.{Weights}
 use Rattle.ih_tables.specs.declared.drafts.Draft.{Draft}

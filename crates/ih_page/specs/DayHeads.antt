@@ -1,46 +1,50 @@
 -- Days: their numbers, and their dates where the first day's is known, in the heads of tables and in lines.
-use Rattle.std.specs.Prelude.{ℕ, List, [], ◌++◌, Option, Some, None, codes, decimal}
-use Rattle.ih_dates.specs.declared.dates.Date.{Date}
-use Rattle.ih_dates.specs.Calendar.{days_after, weekday_after}
-use Rattle.ih_dates.specs.Names.{month_name, weekday_name}
+use Rattle.std.specs.Prelude.{ℕ, List, [], ◌++◌, Option, Some, None, codes, decimal, option_and_then}
+use Rattle.jiff.specs.Types.{Date}
+use Rattle.jiff_fmt.specs.Temporal.{DateParts}
 use Rattle.ih_tables.specs.declared.drafts.Draft.{Draft}
 use Rattle.ih_validate.specs.Report.{lines_below}
+use Rattle.ih_page.specs.Dates.{date_after, month_name, weekday, weekday_name}
 use Rattle.ih_page.specs.Html.{labelled}
 
+-- the date of day d, if that of day 0 is known, and if the year is at most 9999
+abbrev pub date_of : Option Date → ℕ → Option DateParts
+date_of first d = option_and_then (λ f. date_after f d) first
+
 -- a day and its month
-unfoldable pub date_text : Date → List ℕ
+unfoldable pub date_text : DateParts → List ℕ
 date_text date = decimal date.day ++ (codes " " ++ month_name date.month)
 
--- the date d days after the first, with its day of the week
-unfoldable pub dated_text : Date → ℕ → List ℕ
-dated_text first d = weekday_name (weekday_after first d) ++ (codes " " ++ date_text (days_after first d))
+-- the same with the day of the week
+unfoldable pub dated_text : DateParts → List ℕ
+dated_text date = weekday_name (weekday date) ++ (codes " " ++ date_text date)
 
 -- that date in a line of its own
-unfoldable pub dated_below : Date → ℕ → List ℕ
-dated_below first d = codes "<br>" ++ dated_text first d
+unfoldable pub dated_below : DateParts → List ℕ
+dated_below date = codes "<br>" ++ dated_text date
 
-abbrev pub dated_if : Option Date → ℕ → List ℕ
-dated_if None d = []
-dated_if (Some first) d = dated_below first d
+abbrev pub dated_if : Option DateParts → List ℕ
+dated_if None = []
+dated_if (Some date) = dated_below date
 
 -- that date in brackets behind a number
-unfoldable pub dated_beside : Date → ℕ → List ℕ
-dated_beside first d = codes " (" ++ (dated_text first d ++ codes ")")
+unfoldable pub dated_beside : DateParts → List ℕ
+dated_beside date = codes " (" ++ (dated_text date ++ codes ")")
 
-abbrev pub beside_if : Option Date → ℕ → List ℕ
-beside_if None d = []
-beside_if (Some first) d = dated_beside first d
+abbrev pub beside_if : Option DateParts → List ℕ
+beside_if None = []
+beside_if (Some date) = dated_beside date
 
 -- a day in a line: its number behind a text, and its date if that is known
 unfoldable pub day_behind : List ℕ → Option Date → ℕ → List ℕ
-day_behind text first d = labelled text d ++ beside_if first d
+day_behind text first d = labelled text d ++ beside_if (date_of first d)
 
 abbrev pub day_text : Option Date → ℕ → List ℕ
 day_text first d = day_behind (codes ", day ") first d
 
 -- a day's number behind a tag, and its date if that is known
 unfoldable pub day_head : Option Date → List ℕ → ℕ → List ℕ
-day_head first tag d = labelled tag d ++ dated_if first d
+day_head first tag d = labelled tag d ++ dated_if (date_of first d)
 
 -- a row of heads, of which the last are the days, each with this tag
 unfoldable pub heads_and_days : Draft → Option Date → List ℕ → List ℕ → List ℕ

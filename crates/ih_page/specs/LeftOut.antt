@@ -1,7 +1,7 @@
 -- The patients who are left out, with their windows and with what their admission would take.
 use Rattle.std.specs.Prelude.{ℕ, Bool, true, false, List, [], ◌++◌, ◌==◌, Option, Some, None, codes, is_none, slice_get, if◌then◌else◌}
 use Rattle.std.specs.Option.{option_map_or}
-use Rattle.ih_dates.specs.declared.dates.Date.{Date}
+use Rattle.jiff.specs.Types.{Date}
 use Rattle.ih_tables.specs.declared.drafts.Draft.{Draft}
 use Rattle.ih_tables.specs.declared.drafts.Patient.{Patient}
 use Rattle.ih_tables.specs.Sizes.{patient_count}

@@ -1,4 +1,5 @@
 pub mod Html
+pub mod Dates
 pub mod DayHeads
 pub mod Summary
 pub mod CostBar

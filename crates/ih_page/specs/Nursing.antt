@@ -1,7 +1,7 @@
 -- Nurses by shifts: each one's workload beside its maximum, and its rooms.
 use Rattle.std.specs.Prelude.{ℕ, ◌%◌, List, [], ◌++◌, Option, Some, None, ◌==◌, codes, decimal, slice_get, if◌then◌else◌}
 use Rattle.std.specs.Option.{option_map_or}
-use Rattle.ih_dates.specs.declared.dates.Date.{Date}
+use Rattle.jiff.specs.Types.{Date}
 use Rattle.ih_tables.specs.declared.drafts.Draft.{Draft}
 use Rattle.ih_tables.specs.declared.drafts.Nurse.{Nurse}
 use Rattle.ih_tables.specs.Sizes.{nurse_count, room_count, shift_count}

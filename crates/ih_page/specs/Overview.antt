@@ -1,7 +1,7 @@
 -- The overview by days: how full rooms and theatres are, and which nurses are above their maximum. Each of its cells
 -- leads to its place below.
 use Rattle.std.specs.Prelude.{ℕ, ◌+◌, ◌-◌, ◌*◌, ◌/◌, List, [], ◌++◌, Option, Some, None, ◌==◌, nat_lt, codes, decimal, if◌then◌else◌}
-use Rattle.ih_dates.specs.declared.dates.Date.{Date}
+use Rattle.jiff.specs.Types.{Date}
 use Rattle.ih_tables.specs.declared.drafts.Draft.{Draft}
 use Rattle.ih_tables.specs.Sizes.{nurse_count, room_count}
 use Rattle.ih_tables.specs.Works.{max_load}

@@ -2,7 +2,7 @@
 use Rattle.std.specs.Prelude.{ℕ, ◌+◌, ◌-◌, ◌*◌, ◌&&◌, Bool, true, false, min, List, [], ◌++◌, Option, Some, None, ◌==◌, nat_lt, codes, decimal, slice_get, if◌then◌else◌}
 use Rattle.std.specs.Option.{option_map_or}
 use Rattle.std.specs.Str.{bytes_eq}
-use Rattle.ih_dates.specs.declared.dates.Date.{Date}
+use Rattle.jiff.specs.Types.{Date}
 use Rattle.ih_tables.specs.declared.drafts.Draft.{Draft}
 use Rattle.ih_tables.specs.declared.drafts.Nurse.{Nurse}
 use Rattle.ih_tables.specs.declared.drafts.Occupant.{Occupant}

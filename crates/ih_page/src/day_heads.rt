@@ -1,68 +1,73 @@
 //! Days, in the heads of tables and in lines.
 
-ghost use Rattle.std.specs.Prelude.{◌≡◌, ◌++◌, OnOk};
-ghost use Rattle.ih_dates.specs.Calendar.{IsDate};
-ghost use Rattle.ih_page.specs.DayHeads.{beside_if, date_text, dated_below, dated_beside, dated_if, dated_text};
+ghost use Rattle.std.specs.Prelude.{◌≡◌, ◌++◌, OnOk, option_map};
+ghost use Rattle.jiff.specs.Words.{date_parts};
+ghost use Rattle.ih_page.specs.DayHeads.{beside_if, date_of, date_text, dated_below, dated_beside, dated_if, dated_text};
 ghost use Rattle.ih_page.specs.DayHeads.{day_behind, day_head, day_text, heads_and_days, table_head};
 
+use crate::dates::{date_after, month_name, weekday_name};
 use crate::shown::Shown;
 use crate::texts::{Put, put, put_labelled, put_number};
-use ih_dates::{Date, days_after, month_name, weekday_after, weekday_name};
+use jiff::civil::Date;
+
+// The date of a day, where it is known.
+fn date_of(shown: &Shown<'_>, day: u32) -> Option<Date>
+    ensures { option_map date_parts result ≡ date_of shown.now.first day }
+{
+    date_after(shown.first?, day)
+}
 
 #[tactic(auto, unfolding(crate::specs::DayHeads::date_text))]
 fn put_date(out: &mut Vec<u8>, date: Date) -> Put
-    ensures { OnOk result (out.new.items ≡ out.old.items ++ date_text date) }
+    ensures { OnOk result (out.new.items ≡ out.old.items ++ date_text (date_parts date)) }
 {
-    put_number(out, date.day as u64)?;
+    put_number(out, date.day() as u64)?;
     put(out, " ")?;
-    put(out, month_name(date.month))
+    put(out, month_name(date))
 }
 
-// The date that many days after the first, with its day of the week.
+// A date with its day of the week.
 #[tactic(auto, unfolding(crate::specs::DayHeads::dated_text))]
-fn put_dated(out: &mut Vec<u8>, first: Date, day: u32) -> Put
-    requires { IsDate first }
-    ensures { OnOk result (out.new.items ≡ out.old.items ++ dated_text first day) }
+fn put_dated(out: &mut Vec<u8>, date: Date) -> Put
+    ensures { OnOk result (out.new.items ≡ out.old.items ++ dated_text (date_parts date)) }
 {
-    put(out, weekday_name(weekday_after(first, day)))?;
+    put(out, weekday_name(date.weekday()))?;
     put(out, " ")?;
-    put_date(out, days_after(first, day))
+    put_date(out, date)
 }
 
 #[tactic(auto, unfolding(crate::specs::DayHeads::dated_below))]
-fn put_dated_below(out: &mut Vec<u8>, first: Date, day: u32) -> Put
-    requires { IsDate first }
-    ensures { OnOk result (out.new.items ≡ out.old.items ++ dated_below first day) }
+fn put_dated_below(out: &mut Vec<u8>, date: Date) -> Put
+    ensures { OnOk result (out.new.items ≡ out.old.items ++ dated_below (date_parts date)) }
 {
     put(out, "<br>")?;
-    put_dated(out, first, day)
+    put_dated(out, date)
 }
 
-fn put_dated_if(out: &mut Vec<u8>, shown: &Shown<'_>, day: u32) -> Put
-    ensures { OnOk result (out.new.items ≡ out.old.items ++ dated_if shown.now.first day) }
+fn put_dated_if(out: &mut Vec<u8>, date: Option<Date>) -> Put
+    ensures { OnOk result (out.new.items ≡ out.old.items ++ dated_if (option_map date_parts date)) }
 {
-    match shown.first {
+    match date {
         None => Ok(()),
-        Some(first) => put_dated_below(out, first, day),
+        Some(date) => put_dated_below(out, date),
     }
 }
 
 #[tactic(auto, unfolding(crate::specs::DayHeads::dated_beside))]
-fn put_dated_beside(out: &mut Vec<u8>, first: Date, day: u32) -> Put
-    requires { IsDate first }
-    ensures { OnOk result (out.new.items ≡ out.old.items ++ dated_beside first day) }
+fn put_dated_beside(out: &mut Vec<u8>, date: Date) -> Put
+    ensures { OnOk result (out.new.items ≡ out.old.items ++ dated_beside (date_parts date)) }
 {
     put(out, " (")?;
-    put_dated(out, first, day)?;
+    put_dated(out, date)?;
     put(out, ")")
 }
 
-fn put_beside_if(out: &mut Vec<u8>, shown: &Shown<'_>, day: u32) -> Put
-    ensures { OnOk result (out.new.items ≡ out.old.items ++ beside_if shown.now.first day) }
+fn put_beside_if(out: &mut Vec<u8>, date: Option<Date>) -> Put
+    ensures { OnOk result (out.new.items ≡ out.old.items ++ beside_if (option_map date_parts date)) }
 {
-    match shown.first {
+    match date {
         None => Ok(()),
-        Some(first) => put_dated_beside(out, first, day),
+        Some(date) => put_dated_beside(out, date),
     }
 }
 
@@ -72,7 +77,7 @@ pub fn put_day_behind(out: &mut Vec<u8>, shown: &Shown<'_>, text: &str, day: u32
     ensures { OnOk result (out.new.items ≡ out.old.items ++ day_behind text.now shown.now.first day) }
 {
     put_labelled(out, text, day)?;
-    put_beside_if(out, shown, day)
+    put_beside_if(out, date_of(shown, day))
 }
 
 /// Appends a day behind a comma, as the next part of a line.
@@ -87,7 +92,7 @@ fn put_day_head(out: &mut Vec<u8>, shown: &Shown<'_>, tag: &str, day: u32) -> Pu
     ensures { OnOk result (out.new.items ≡ out.old.items ++ day_head shown.now.first tag.now day) }
 {
     put_labelled(out, tag, day)?;
-    put_dated_if(out, shown, day)
+    put_dated_if(out, date_of(shown, day))
 }
 
 /// Appends a row of heads, of which the last are the days, each with this tag.

@@ -1,7 +1,7 @@
 //! Laws of pages, on functions that do nothing.
 
 ghost use Rattle.std.specs.Prelude.{ℕ, List, Option};
-ghost use Rattle.ih_dates.specs.declared.dates.Date.{Date};
+ghost use Rattle.jiff.specs.Types.{Date};
 ghost use Rattle.ih_plan.specs.Timetable.{IsPlanOf, Timetable};
 ghost use Rattle.ih_page.specs.{ChangeLaws.ChangesAreListed, Laws.IdsAreUnique, Laws.ListsSum, Laws.NamesHaveNoTags, Laws.TagsAreOwn};
 ghost use Rattle.ih_page.specs.Places.{LinksLead};

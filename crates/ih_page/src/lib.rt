@@ -5,6 +5,7 @@ mod bill_lines;
 mod cell_names;
 mod changes;
 mod cost_bar;
+mod dates;
 mod day_heads;
 mod laws;
 mod left_out;

@@ -1,7 +1,6 @@
 //! The page of a timetable.
 
 ghost use Rattle.std.specs.Prelude.{◌≡◌, ◌^◌, ◌++◌, OnOk, IfOk, IfSome, option_map};
-ghost use Rattle.ih_dates.specs.Calendar.{IsDate};
 ghost use Rattle.ih_tables.specs.Bills.{IsWithin};
 ghost use Rattle.ih_plan.specs.Timetable.{IsPlanOf};
 ghost use Rattle.ih_page.specs.Page.{kind_of_text, look, opening, jumps, top, tables, page_of};
@@ -19,10 +18,10 @@ use crate::surgery::put_surgery_of;
 use crate::texts::{Put, put, put_signed};
 use crate::wrong::put_wrong;
 use ih_costs::Ledgers;
-use ih_dates::Date;
 use ih_plan::Plan;
 use ih_tables::{Bill, Instance};
 use ih_validate::{ResourceKind, bill};
+use jiff::civil::Date;
 use std::alloc::{AllocError, Global};
 
 // The kind of the text, and the beginning of its title.
@@ -191,7 +190,6 @@ pub fn page(
     older: Option<&Plan>,
 ) -> Result<Vec<u8>, AllocError>
     requires plan { IsPlanOf inst.now.draft plan.now }
-    requires first { IfSome first IsDate }
     requires older { IfSome older (λ o. IsPlanOf inst.now.draft o.now) }
     ensures { IfOk result
         (λ text. text.items ≡ page_of inst.now.draft first (option_map (λ o. o.now) older.entry) plan.now) }

@@ -1,14 +1,13 @@
 //! What a page shows.
 
-ghost use Rattle.std.specs.Prelude.{◌≡◌, ◌^◌, Some};
-ghost use Rattle.ih_dates.specs.{Calendar.IsDate, declared.dates.Date.Date};
+ghost use Rattle.std.specs.Prelude.{◌≡◌, ◌^◌};
 ghost use Rattle.ih_tables.specs.Bills.{IsWithin};
 ghost use Rattle.ih_plan.specs.{BillOf.bill_of, Timetable.IsPlanOf};
 
 use ih_costs::Ledgers;
-use ih_dates::Date;
 use ih_plan::Plan;
 use ih_tables::{Bill, Instance};
+use jiff::civil::Date;
 
 /// A timetable of an instance.
 #[derive(Drop)]
@@ -18,7 +17,6 @@ pub struct Shown<'a> {
     /// The date of the first day, where it is known.
     pub first: Option<Date>,
     pub ghost plan_fits: { IsPlanOf inst.now.draft plan.now },
-    pub ghost first_is: { (d : Date) → first ≡ Some d → IsDate d },
 }
 
 /// The same, with its bill and its ledgers. Few functions need these, and each proof carries what it is given.

@@ -2,7 +2,7 @@
 
 ghost use Rattle.std.specs.Prelude.{◌≡◌, ◌<◌, ◌≤◌, IfOk};
 ghost use Rattle.ih_plan.specs.Timetable.{IsPlanOf};
-ghost use Rattle.ih_parfill.specs.Starts.{started};
+ghost use Rattle.ih_fill.specs.Starts.{started};
 
 use crate::filling::par_fill;
 use ih_inputs::Inputs;
@@ -39,7 +39,7 @@ pub fn begin<R: Threads + Wait + Sync>(
     ensures start { IfOk result (λ b. b.start ≡ started is_filled hard inputs.inst.value.draft inputs.plan) }
     ensures plan { IfOk result (λ b. IsPlanOf b.inst.value.draft b.start) }
 {
-    let Inputs { inst, plan } = inputs;
+    let Inputs { inst, plan, .. } = inputs;
     if !is_filled {
         return Ok(Begun { inst, start: plan });
     }

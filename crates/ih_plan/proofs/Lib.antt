@@ -20,3 +20,4 @@ pub mod SumBounds
 pub mod SumLemmas
 pub mod ChangeSums
 pub mod Series
+pub mod Freezing

@@ -4,7 +4,7 @@ use Rattle.std.specs.List.{AllByRecursion}
 use Rattle.ih_plan.specs.Draws.{move_of}
 use Rattle.ih_journal.specs.declared.entries.Entry.{Entry}
 use Rattle.ih_journal.specs.Tried.{Tried}
-use Rattle.ih_journal.specs.declared.refusals.Reason.TheVariants.{Worker, Number, Try, Seen, Move}
+use Rattle.ih_tables.specs.declared.journal_refusals.Reason.TheVariants.{Worker, Number, Try, Seen, Move}
 use Rattle.ih_journal.specs.Attempts.{TryNumber, next_try}
 use Rattle.ih_journal.specs.Base.{Base}
 use Rattle.ih_journal.specs.Legal.{AreLegal}

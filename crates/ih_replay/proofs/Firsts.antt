@@ -1,7 +1,7 @@
 -- The first of some reasons whose check isn't passed.
 use Rattle.std.proofs.Common.{◌∙◌, sym, ap, List, [], ◌∷◌, ◌++◌, append_assoc}
 use Rattle.std.specs.List.{AllByRecursion}
-use Rattle.ih_journal.specs.declared.refusals.Reason.{Reason}
+use Rattle.ih_tables.specs.declared.journal_refusals.Reason.{Reason}
 use Rattle.ih_replay.specs.Refusals.{IsFirstOf}
 
 pub all-append : (P : Reason → Type 0) (xs ys : List Reason) → AllByRecursion P xs → AllByRecursion P ys → AllByRecursion P (xs ++ ys)

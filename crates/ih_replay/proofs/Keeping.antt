@@ -10,7 +10,7 @@ use Rattle.ih_plan.proofs.ReadLemmas.{get-more, get-last, get-front}
 use Rattle.ih_moves.proofs.Streams.{stream-next}
 use Rattle.ih_journal.specs.Tried.{Tried}
 use Rattle.ih_journal.specs.declared.settings.Options.{Options}
-use Rattle.ih_journal.specs.declared.refusals.Reason.{Reason}
+use Rattle.ih_tables.specs.declared.journal_refusals.Reason.{Reason}
 use Rattle.ih_journal.specs.Attempts.{try_after, is_retried, last_by}
 use Rattle.ih_journal.specs.Base.{Base}
 use Rattle.ih_journal.specs.Legal.{AreLegal, IsLegal}

@@ -4,8 +4,8 @@ use Rattle.ih_tables.specs.Valid.{IsValid}
 use Rattle.ih_plan.specs.Draws.{move_of}
 use Rattle.ih_journal.specs.declared.entries.Entry.{Entry}
 use Rattle.ih_journal.specs.Tried.{Tried, tried}
-use Rattle.ih_journal.specs.declared.refusals.Reason.{Reason}
-use Rattle.ih_journal.specs.declared.refusals.Reason.TheVariants.{Heading, Extra, Grammar, Place, Worker, Number, Try, Seen, Move as Move_reason, Price, Verdict as Verdict_reason, Early}
+use Rattle.ih_tables.specs.declared.journal_refusals.Reason.{Reason}
+use Rattle.ih_tables.specs.declared.journal_refusals.Reason.TheVariants.{Heading, Extra, Grammar, Place, Worker, Number, Try, Seen, Move as Move_reason, Price, Verdict as Verdict_reason, Early}
 use Rattle.ih_journal.specs.Attempts.{is_done}
 use Rattle.ih_journal.specs.Base.{Base}
 use Rattle.ih_journal.specs.Grammar.{IsLineOf}

@@ -2,8 +2,8 @@
 use Rattle.std.proofs.Common.{◌≡◌, ℕ, ◌<◌, ◌≤◌, refl, arith, sym, ◌∙◌, subst, true, false, List, [], ◌∷◌, ◌++◌, length}
 use Rattle.ih_journal.specs.declared.entries.Entry.{Entry}
 use Rattle.ih_journal.specs.Tried.{Tried}
-use Rattle.ih_journal.specs.declared.refusals.Reason.{Reason}
-use Rattle.ih_journal.specs.declared.refusals.Reason.TheVariants.{Heading, Extra, Grammar, Place, Worker, Number, Try, Seen, Move, Price, Verdict, Early}
+use Rattle.ih_tables.specs.declared.journal_refusals.Reason.{Reason}
+use Rattle.ih_tables.specs.declared.journal_refusals.Reason.TheVariants.{Heading, Extra, Grammar, Place, Worker, Number, Try, Seen, Move, Price, Verdict, Early}
 use Rattle.ih_journal.specs.Attempts.{is_done}
 use Rattle.ih_journal.specs.Base.{Base}
 use Rattle.ih_journal.specs.Grammar.{IsLineOf}

@@ -5,8 +5,8 @@ use Rattle.ih_plan.specs.Draws.{move_of}
 use Rattle.ih_plan.specs.Series.{price_of_all}
 use Rattle.ih_journal.specs.declared.entries.Entry.{Entry}
 use Rattle.ih_journal.specs.Tried.{Tried, tried, tries}
-use Rattle.ih_journal.specs.declared.refusals.Reason.{Reason}
-use Rattle.ih_journal.specs.declared.refusals.Reason.TheVariants.{Extra, Grammar, Place, Worker, Number, Try, Seen, Move, Price, Verdict}
+use Rattle.ih_tables.specs.declared.journal_refusals.Reason.{Reason}
+use Rattle.ih_tables.specs.declared.journal_refusals.Reason.TheVariants.{Extra, Grammar, Place, Worker, Number, Try, Seen, Move, Price, Verdict}
 use Rattle.ih_journal.specs.Attempts.{is_done, next_try}
 use Rattle.ih_journal.specs.Base.{Base}
 use Rattle.ih_journal.specs.Grammar.{IsLineOf}

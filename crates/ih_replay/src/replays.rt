@@ -5,8 +5,7 @@
 
 use crate::taking::{is_full, take_line};
 use crate::workers::{ReplayWorker, new_workers};
-use ih_cellbook::Book;
-use ih_history::plan_at;
+use ih_cellbook::{Book, plan_at};
 use ih_journal::{Entry, JournalRefusal, Options, Reason};
 use ih_plan::Plan;
 use ih_tables::Instance;
@@ -38,7 +37,8 @@ impl<'a> Model for Replay<'a> {
 impl<'a> Replay<'a> {
     ghost use Rattle.std.specs.Prelude.{◌≡◌, ℕ, ◌+◌, ◌++◌, ◌∷◌, [], length, IfOk, IfErr, OnOk, OnErr, IsOk, IfSome};
     ghost use Rattle.ih_plan.specs.Timetable.{IsPlanOf};
-    ghost use Rattle.ih_journal.specs.{declared.entries.Entry.Entry, declared.refusals.Reason.TheVariants.Early};
+    ghost use Rattle.ih_journal.specs.{declared.entries.Entry.Entry};
+    ghost use Rattle.ih_tables.specs.declared.journal_refusals.Reason.TheVariants.{Early};
     ghost use Rattle.ih_journal.specs.{Settings.IsLawful, Tried.tries, Best.BestIs, Frozen.AgreesBefore};
     ghost use Rattle.ih_journal.specs.{History.plan_at, Legal.AreLegal, Legal.IsFull};
     ghost use Rattle.ih_cellbook.specs.{Keeping.base_with, Keeping.IsBase, Laws.AreFew, Legal.AreExact};

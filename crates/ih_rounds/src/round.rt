@@ -7,8 +7,7 @@ ghost use Rattle.ih_cellbook.specs.Keeping.{base_with};
 ghost use Rattle.ih_rounds.specs.{Rounds.options_in, Steps.HasRound, Steps.IsAnswer, Steps.LeadsOn, Steps.end_of};
 
 use crate::asking::Asked;
-use ih_cellbook::best_in;
-use ih_history::{plan_at, put_journal};
+use ih_cellbook::{best_in, plan_at, put_journal};
 use ih_journal::{Entry, Options};
 use ih_plan::Plan;
 use ih_tables::Instance;

@@ -13,7 +13,8 @@ use Rattle.ih_plan.proofs.ListedBelow.{tagged-same}
 use Rattle.ih_plan.specs.Series.{AreMoves, expand_all, footprint_of_all, price_of_all}
 use Rattle.ih_journal.specs.Tried.{Tried}
 use Rattle.ih_journal.specs.Base.{Base}
-use Rattle.ih_journal.specs.Frozen.{is_frozen, is_frozen_write}
+use Rattle.ih_plan.specs.Frozen.{is_frozen_write}
+use Rattle.ih_journal.specs.Frozen.{is_frozen}
 use Rattle.ih_journal.specs.History.{plan_after, version}
 use Rattle.ih_cellbook.specs.Counters.{is_compared}
 use Rattle.ih_cellbook.specs.ReadsState.{ReadsState}

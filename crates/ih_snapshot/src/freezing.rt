@@ -3,7 +3,7 @@
 ghost use Rattle.std.specs.Prelude.{◌≡◌, ◌<◌, ◌≤◌, length};
 ghost use Rattle.std.specs.List.{list_any};
 ghost use Rattle.ih_plan.specs.{Timetable.IsPlanOf, Writes.AreWritesOf, Series.AreMoves, Series.expand_all};
-ghost use Rattle.ih_journal.specs.Frozen.{is_frozen_write};
+ghost use Rattle.ih_plan.specs.Frozen.{is_frozen_write};
 
 use ih_journal::frozen;
 use ih_moves::{Writes, expand};

@@ -13,14 +13,14 @@ use Rattle.ih_words.specs.Advise.{advise_app, lawful_advise}
 use Rattle.ih_words.specs.Chain.{chain_app, lawful_chain}
 use Rattle.ih_words.specs.Check.{check_app, lawful_check}
 use Rattle.ih_words.specs.Demo.{demo_app, lawful_demo}
-use Rattle.ih_words.specs.Distinct.{all_differ}
+use Rattle.ih_arguments.specs.Distinct.{all_differ}
 use Rattle.ih_words.specs.Generate.{gen_app, lawful_gen}
-use Rattle.ih_words.specs.Matches.{call_by, has_no_fault, number_at}
+use Rattle.ih_arguments.specs.Matches.{call_by, has_no_fault, number_at}
 use Rattle.ih_words.specs.Plain.{IsWithin, PlainCall, is_lawful_plain, is_number_to, lawful_plain_to, plain_search_in}
 use Rattle.ih_words.specs.Replay.{lawful_replay, replay_app}
 use Rattle.ih_words.specs.Rounds.{lawful_rounds, rounds_app}
 use Rattle.ih_words.specs.Solve.{SolveCall, is_lawful_solve, lawful_solve, solve_app, solve_files, solve_in}
-use Rattle.ih_words.specs.Start.{freezes_a_file, start_files}
+use Rattle.ih_arguments.specs.Start.{freezes_a_file, start_files}
 use Rattle.ih_words.specs.Words.{Call, call_of, call_named, chain, check, demo, gen, replay, rounds, salvage, solve, advise, IsWithinLimits, NamedCallsAreWithinLimits, OutDiffers}
 use Rattle.ih_words.specs.declared.chain.TheConstants.{MAX_LENGTH}
 use Rattle.ih_words.specs.declared.rounds.TheConstants.{MAX_ROUNDS}

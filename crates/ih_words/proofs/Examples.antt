@@ -6,9 +6,9 @@ use Rattle.ih_words.specs.Advise.{advise_app}
 use Rattle.ih_words.specs.Chain.{chain_app}
 use Rattle.ih_words.specs.Check.{check_app}
 use Rattle.ih_words.specs.Demo.{demo_app}
-use Rattle.ih_words.specs.Distinct.{all_differ}
+use Rattle.ih_arguments.specs.Distinct.{all_differ}
 use Rattle.ih_words.specs.Generate.{gen_app}
-use Rattle.ih_words.specs.Matches.{has_no_fault}
+use Rattle.ih_arguments.specs.Matches.{has_no_fault}
 use Rattle.ih_words.specs.Plain.{plain_app}
 use Rattle.ih_words.specs.Replay.{replay_app}
 use Rattle.ih_words.specs.Rounds.{rounds_app}

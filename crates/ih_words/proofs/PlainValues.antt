@@ -2,12 +2,13 @@
 use Rattle.std.proofs.Common.{◌≡◌, ◌≤◌, ℕ, Bool, true, false, List, Option, None, option_map, codes, refl, le-leb}
 use Rattle.std.specs.Prelude.{if◌then◌else◌}
 use Rattle.clap.specs.Words.{App, Row, Rule, Text, matches_of}
-use Rattle.ih_journal.specs.declared.settings.TheConstants.{MAX_HARD, MAX_HEAT, MAX_MOVES, MAX_WORKERS}
-use Rattle.ih_words.specs.Arguments.{named, numbered_option, seed_option}
-use Rattle.ih_words.specs.Matches.{HasNumber, HasText, call_by, has_no_fault, number_at}
+use Rattle.ih_plan.specs.declared.limits.TheConstants.{MAX_HARD, MAX_HEAT, MAX_WORKERS}
+use Rattle.ih_journal.specs.declared.settings.TheConstants.{MAX_MOVES}
+use Rattle.ih_arguments.specs.Arguments.{named, numbered_option, seed_option}
+use Rattle.ih_arguments.specs.Matches.{HasNumber, HasText, call_by, has_no_fault, number_at}
 use Rattle.ih_words.specs.Plain.{HasPlain, PlainCall, lawful_plain, lawful_plain_to, plain_app}
-use Rattle.ih_words.specs.Rules.{Requires, RequiresNumber}
-use Rattle.ih_words.proofs.DescriptionRules.{requires_name, requires_number}
+use Rattle.ih_arguments.specs.Rules.{Requires, RequiresNumber}
+use Rattle.ih_arguments.proofs.DescriptionRules.{requires_name, requires_number}
 
 module _ (name id : Text) (high : ℕ) where
   -- its file names and options are there

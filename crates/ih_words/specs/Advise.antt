@@ -1,10 +1,10 @@
 -- The command `advise`: its description for `clap`, its values and when they are lawful.
 use Rattle.std.specs.Prelude.{ℕ, ◌≤◌, List, [], ◌∷◌, Option, Some, None, codes, if◌then◌else◌}
 use Rattle.clap.specs.Words.{App, Row, Text, with_rule}
-use Rattle.ih_journal.specs.declared.settings.TheConstants.{MAX_HARD, MAX_WORKERS}
-use Rattle.ih_words.specs.Arguments.{files_app, numbered_option}
-use Rattle.ih_words.specs.Distinct.{all_differ}
-use Rattle.ih_words.specs.Matches.{HasFiles, HasNumber, number_at, text_at}
+use Rattle.ih_plan.specs.declared.limits.TheConstants.{MAX_HARD, MAX_WORKERS}
+use Rattle.ih_arguments.specs.Arguments.{files_app, numbered_option}
+use Rattle.ih_arguments.specs.Distinct.{all_differ}
+use Rattle.ih_arguments.specs.Matches.{HasFiles, HasNumber, number_at, text_at}
 use Rattle.ih_words.specs.declared.advise.Advise.{Advise}
 
 -- advise INSTANCE SOLUTION --hard N --workers N

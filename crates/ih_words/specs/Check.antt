@@ -1,9 +1,9 @@
 -- The command `check`: its description for `clap`, its values and when they are lawful.
 use Rattle.std.specs.Prelude.{List, [], ◌∷◌, Option, Some, None, codes, if◌then◌else◌}
 use Rattle.clap.specs.Words.{App, Row, Text}
-use Rattle.ih_words.specs.Arguments.{files_app}
-use Rattle.ih_words.specs.Distinct.{all_differ}
-use Rattle.ih_words.specs.Matches.{text_at}
+use Rattle.ih_arguments.specs.Arguments.{files_app}
+use Rattle.ih_arguments.specs.Distinct.{all_differ}
+use Rattle.ih_arguments.specs.Matches.{text_at}
 use Rattle.ih_words.specs.declared.check.Check.{Check}
 
 -- check INSTANCE SOLUTION

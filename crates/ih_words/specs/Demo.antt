@@ -1,8 +1,8 @@
 -- The command `demo`: its description for `clap` and its value.
 use Rattle.std.specs.Prelude.{ℕ, List, Option, Some, codes}
 use Rattle.clap.specs.Words.{App, Row, new_app, with_rule}
-use Rattle.ih_words.specs.Arguments.{named_number}
-use Rattle.ih_words.specs.Matches.{number_at}
+use Rattle.ih_arguments.specs.Arguments.{named_number}
+use Rattle.ih_arguments.specs.Matches.{number_at}
 
 -- demo NUMBER
 unfoldable pub demo_app : App

@@ -1,8 +1,8 @@
 -- The command `gen`: its description for `clap` and its values.
 use Rattle.std.specs.Prelude.{ℕ, List, Option, Some, codes}
 use Rattle.clap.specs.Words.{App, Row, Text, new_app, with_rule}
-use Rattle.ih_words.specs.Arguments.{named, named_number}
-use Rattle.ih_words.specs.Matches.{number_at, text_at}
+use Rattle.ih_arguments.specs.Arguments.{named, named_number}
+use Rattle.ih_arguments.specs.Matches.{number_at, text_at}
 use Rattle.ih_words.specs.declared.generate.Gen.{Gen}
 
 -- gen NUMBER OUT

@@ -1,15 +1,11 @@
 pub mod Advise
-pub mod Arguments
 pub mod Chain
 pub mod Check
 pub mod Demo
-pub mod Distinct
 pub mod Generate
-pub mod Matches
 pub mod Plain
 pub mod Replay
 pub mod Rounds
-pub mod Rules
+pub mod SearchOptions
 pub mod Solve
-pub mod Start
 pub mod Words

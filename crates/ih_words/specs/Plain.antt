@@ -4,9 +4,10 @@ use Rattle.std.specs.Prelude.{◌≡◌, ◌≤◌, ◌&&◌, ◌*◌, ℕ, nat_
 use Rattle.clap.specs.Words.{App, Row, Text, first_of, with_rule}
 use Rattle.ih_journal.specs.Settings.{IsLawful, most_entries}
 use Rattle.ih_journal.specs.declared.settings.TheConstants.{MAX_ENTRIES}
-use Rattle.ih_words.specs.Arguments.{flag, numbered_option, optional}
-use Rattle.ih_words.specs.Distinct.{all_differ}
-use Rattle.ih_words.specs.Matches.{HasNames, HasOptions, flag_at, number_at, options_in, text_at}
+use Rattle.ih_arguments.specs.Arguments.{flag, numbered_option, optional}
+use Rattle.ih_arguments.specs.Distinct.{all_differ}
+use Rattle.ih_arguments.specs.Matches.{HasNames, flag_at, number_at, text_at}
+use Rattle.ih_words.specs.SearchOptions.{HasOptions, options_in}
 use Rattle.ih_words.specs.Solve.{SolveCall, search_app, solve_call, solve_files}
 use Rattle.ih_words.specs.declared.solve.Solve.{Solve}
 

@@ -2,10 +2,10 @@
 -- when these are lawful.
 use Rattle.std.specs.Prelude.{◌&&◌, List, ◌∷◌, Option, Some, None, codes, if◌then◌else◌}
 use Rattle.clap.specs.Words.{App, Row, Text, new_app, with_rule}
-use Rattle.ih_words.specs.Arguments.{named}
-use Rattle.ih_words.specs.Distinct.{all_differ}
-use Rattle.ih_words.specs.Matches.{text_at}
-use Rattle.ih_words.specs.Start.{StartCall, freezes_a_file, start_call, start_files, start_in, with_start}
+use Rattle.ih_arguments.specs.Arguments.{named}
+use Rattle.ih_arguments.specs.Distinct.{all_differ}
+use Rattle.ih_arguments.specs.Matches.{text_at}
+use Rattle.ih_arguments.specs.Start.{StartCall, freezes_a_file, start_call, start_files, start_in, with_start}
 use Rattle.ih_words.specs.declared.replay.Replay.{Replay}
 
 -- NAME INSTANCE JOURNAL OUT [--start F] [--freeze DAY] [--fill]

@@ -1,10 +1,12 @@
 -- The command `solve`: its description for `clap`, its values and when they are lawful.
 use Rattle.std.specs.Prelude.{◌&&◌, nat_le, Bool, List, ◌∷◌, Option, Some, None, codes, if◌then◌else◌}
 use Rattle.clap.specs.Words.{App, Row, Text, new_app, with_rule}
-use Rattle.ih_words.specs.Arguments.{named, optional_number, with_options}
-use Rattle.ih_words.specs.Distinct.{all_differ}
-use Rattle.ih_words.specs.Matches.{number_at, options_in, text_at}
-use Rattle.ih_words.specs.Start.{StartCall, freezes_a_file, start_call, start_files, start_in, with_start}
+use Rattle.ih_arguments.specs.Arguments.{named, optional_number}
+use Rattle.ih_words.specs.SearchOptions.{with_options}
+use Rattle.ih_arguments.specs.Distinct.{all_differ}
+use Rattle.ih_arguments.specs.Matches.{number_at, text_at}
+use Rattle.ih_words.specs.SearchOptions.{options_in}
+use Rattle.ih_arguments.specs.Start.{StartCall, freezes_a_file, start_call, start_files, start_in, with_start}
 use Rattle.ih_journal.specs.Settings.{most_entries}
 use Rattle.ih_journal.specs.declared.settings.Options.{Options}
 use Rattle.ih_journal.specs.declared.settings.TheConstants.{MAX_ENTRIES, MAX_RETRIES}

@@ -8,7 +8,7 @@ use Rattle.ih_words.specs.Chain.{ChainCall, IsLawfulChain, chain_app, chain_call
 use Rattle.ih_words.specs.Check.{CheckCall, check_app, check_call, lawful_check}
 use Rattle.ih_words.specs.Demo.{demo_app, lawful_demo}
 use Rattle.ih_words.specs.Generate.{GenCall, gen_app, gen_call, lawful_gen}
-use Rattle.ih_words.specs.Matches.{call_by}
+use Rattle.ih_arguments.specs.Matches.{call_by}
 use Rattle.ih_words.specs.Plain.{IsWithin}
 use Rattle.ih_words.specs.Replay.{ReplayCall, lawful_replay, replay_app, replay_call}
 use Rattle.ih_words.specs.Rounds.{IsLawfulRounds, RoundsCall, lawful_rounds, rounds_app, rounds_call}

@@ -2,13 +2,15 @@
 ghost use Rattle.std.specs.Prelude.{◌≡◌, IfOk, IfSome, map, option_map, string_bytes};
 ghost use Rattle.clap.specs.Words.{app_of, found_of, rows_of};
 ghost use Rattle.ih_words.specs.Advise.{HasAdvise, IsLawfulAdvise, advise_app, advise_call, advise_in, lawful_advise};
-ghost use Rattle.ih_words.specs.Matches.{IsAnswer, call_by};
+ghost use Rattle.ih_arguments.specs.Matches.{call_by};
+ghost use Rattle.ih_words.specs.SearchOptions.{IsAnswer};
 
 use crate::WordsError;
-use crate::arguments::{files_description, numbered_option, with};
-use crate::file_names::all_differ;
-use crate::matches::{matches_in, text_of, u32_of};
+use crate::search_options::matches_in;
 use clap::{ArgMatches, Command};
+use ih_arguments::arguments::{files_description, numbered_option, with};
+use ih_arguments::file_names::all_differ;
+use ih_arguments::matches::{text_of, u32_of};
 use ih_journal::{MAX_HARD, MAX_WORKERS};
 use std::alloc::{AllocError, Global};
 

@@ -1,7 +1,8 @@
 //! The command `chain`: its values and when they are lawful.
 ghost use Rattle.std.specs.Prelude.{IfOk, map, string_bytes};
 ghost use Rattle.ih_words.specs.Chain.{IsLawfulChain, chain_app, chain_call, lawful_chain};
-ghost use Rattle.ih_words.specs.Matches.{IsAnswer, call_by};
+ghost use Rattle.ih_arguments.specs.Matches.{call_by};
+ghost use Rattle.ih_words.specs.SearchOptions.{IsAnswer};
 
 use crate::WordsError;
 use crate::plain::read_plain;

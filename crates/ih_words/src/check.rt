@@ -2,13 +2,15 @@
 ghost use Rattle.std.specs.Prelude.{◌≡◌, map, option_map, string_bytes};
 ghost use Rattle.clap.specs.Words.{found_of, rows_of};
 ghost use Rattle.ih_words.specs.Check.{check_app, check_call, lawful_check};
-ghost use Rattle.ih_words.specs.Matches.{HasFiles, IsAnswer, call_by};
+ghost use Rattle.ih_arguments.specs.Matches.{HasFiles, call_by};
+ghost use Rattle.ih_words.specs.SearchOptions.{IsAnswer};
 
 use crate::WordsError;
-use crate::arguments::files_description;
-use crate::file_names::all_differ;
-use crate::matches::{matches_in, text_of};
+use crate::search_options::matches_in;
 use clap::ArgMatches;
+use ih_arguments::arguments::files_description;
+use ih_arguments::file_names::all_differ;
+use ih_arguments::matches::text_of;
 use std::alloc::Global;
 
 /// `check INSTANCE SOLUTION`.

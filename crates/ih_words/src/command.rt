@@ -1,6 +1,6 @@
 //! The commands, as callers see them, and how they are read.
 ghost use Rattle.std.specs.Prelude.{◌≡◌, IfErr, IfOk, None, Some, map, string_bytes};
-ghost use Rattle.ih_words.specs.Matches.{IsAnswer};
+ghost use Rattle.ih_words.specs.SearchOptions.{IsAnswer};
 ghost use Rattle.ih_words.specs.Words.{HasLawfulOptions, call_named, call_of, command_call};
 
 use crate::advise::read_advise;

@@ -1,12 +1,14 @@
 //! The command `demo`: its description for `clap` and its value.
 ghost use Rattle.std.specs.Prelude.{◌≡◌, IfOk, map, string_bytes};
 ghost use Rattle.clap.specs.Words.{app_of};
-ghost use Rattle.ih_words.specs.{Demo.demo_app, Demo.lawful_demo, Matches.IsAnswer, Matches.call_by};
+ghost use Rattle.ih_arguments.specs.{Matches.call_by};
+ghost use Rattle.ih_words.specs.{Demo.demo_app, Demo.lawful_demo, SearchOptions.IsAnswer};
 
 use crate::WordsError;
-use crate::arguments::named_number;
-use crate::matches::{matches_in, u64_of};
+use crate::search_options::matches_in;
 use clap::Command;
+use ih_arguments::arguments::named_number;
+use ih_arguments::matches::u64_of;
 use std::alloc::{AllocError, Global};
 
 // `demo NUMBER`.

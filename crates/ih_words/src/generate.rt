@@ -2,12 +2,14 @@
 ghost use Rattle.std.specs.Prelude.{◌≡◌, IfOk, codes, map, string_bytes};
 ghost use Rattle.clap.specs.Words.{app_of, found_of, rows_of};
 ghost use Rattle.ih_words.specs.Generate.{gen_app, gen_call, gen_in, lawful_gen};
-ghost use Rattle.ih_words.specs.Matches.{HasNumber, HasText, IsAnswer, call_by};
+ghost use Rattle.ih_arguments.specs.Matches.{HasNumber, HasText, call_by};
+ghost use Rattle.ih_words.specs.SearchOptions.{IsAnswer};
 
 use crate::WordsError;
-use crate::arguments::{named, named_number, with};
-use crate::matches::{matches_in, text_of, u64_of};
+use crate::search_options::matches_in;
 use clap::{ArgMatches, Command};
+use ih_arguments::arguments::{named, named_number, with};
+use ih_arguments::matches::{text_of, u64_of};
 use std::alloc::{AllocError, Global};
 
 /// `gen NUMBER OUT`.

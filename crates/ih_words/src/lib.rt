@@ -1,24 +1,20 @@
 //! The words of a command line: the command that they give, with its values, or that they give none.
-//! Each command has a description for `clap`, which reads the words, and conditions of its own on what was read. What
-//! commands share is public, for programs with other commands.
+//! Each command has a description for `clap`, which reads the words, and conditions of its own on what was read.
 #![tactic(auto)]
 
 mod advise;
-pub mod arguments;
 mod chain;
 mod check;
 mod command;
 mod demo;
 mod error;
-pub mod file_names;
 mod generate;
 mod laws;
-pub mod matches;
 mod plain;
 mod replay;
 mod rounds;
+mod search_options;
 mod solve;
-pub mod start;
 
 pub use advise::Advise;
 pub use chain::{Chains, MAX_LENGTH};
@@ -26,8 +22,8 @@ pub use check::Check;
 pub use command::{Command, read_words};
 pub use error::WordsError;
 pub use generate::Gen;
+pub use ih_arguments::start::Start;
 pub use laws::named_calls_are_within_limits;
 pub use replay::Replay;
 pub use rounds::{MAX_ROUNDS, Rounds};
 pub use solve::Solve;
-pub use start::{MAX_FREEZE, Start};

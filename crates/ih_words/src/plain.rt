@@ -3,18 +3,21 @@
 ghost use Rattle.std.specs.Prelude.{◌≡◌, ◌≤◌, ◌*◌, IfOk, IfSome, nat_le, true, map, option_map, string_bytes};
 ghost use Rattle.clap.specs.Words.{app_of, found_of, is_simple_and_free, rows_of};
 ghost use Rattle.ih_journal.specs.Settings.{IsLawful, most_entries};
-ghost use Rattle.ih_words.specs.Matches.{HasNumber, IsAnswer, call_by, number_at};
+ghost use Rattle.ih_arguments.specs.Matches.{HasNumber, call_by, number_at};
+ghost use Rattle.ih_words.specs.SearchOptions.{IsAnswer};
 ghost use Rattle.ih_words.specs.Plain.{HasPlain, IsPlain, IsPlainWith, is_lawful_plain, lawful_plain};
 ghost use Rattle.ih_words.specs.Plain.{lawful_plain_to, plain_app, plain_call, plain_search_in};
-ghost use Rattle.ih_words.specs.{Rules.has_independent_rules, Solve.solve_call};
+ghost use Rattle.ih_arguments.specs.{Rules.has_independent_rules};
+ghost use Rattle.ih_words.specs.{Solve.solve_call};
 
 use crate::WordsError;
-use crate::arguments::{flag, numbered_option, optional, with};
-use crate::file_names::names_differ;
-use crate::matches::{flag_of, matches_in, optional_text_of, options_in, text_of, u32_of};
+use crate::search_options::{matches_in, options_in};
 use crate::solve::{Solve, search_description};
-use crate::start::Start;
 use clap::{ArgMatches, Command};
+use ih_arguments::arguments::{flag, numbered_option, optional, with};
+use ih_arguments::file_names::names_differ;
+use ih_arguments::matches::{flag_of, optional_text_of, text_of, u32_of};
+use ih_arguments::start::Start;
 use ih_journal::{MAX_ENTRIES, Options};
 use std::alloc::{AllocError, Global};
 

@@ -1,15 +1,18 @@
 //! The commands `replay` and `salvage`: their description for `clap`, their values and when these are lawful.
 ghost use Rattle.std.specs.Prelude.{◌≡◌, IfOk, codes, map, option_map, string_bytes};
 ghost use Rattle.clap.specs.Words.{app_of, found_of, rows_of};
-ghost use Rattle.ih_words.specs.Matches.{HasNames, IsNumberIfGiven, IsAnswer, call_by};
+ghost use Rattle.ih_arguments.specs.Matches.{HasNames, IsNumberIfGiven, call_by};
+ghost use Rattle.ih_words.specs.SearchOptions.{IsAnswer};
 ghost use Rattle.ih_words.specs.Replay.{lawful_replay, replay_app, replay_call, replay_in};
+ghost use Rattle.ih_plan.specs.declared.limits.TheConstants.{MAX_FREEZE};
 
 use crate::WordsError;
-use crate::arguments::{named, with};
-use crate::file_names::names_differ;
-use crate::matches::{matches_in, text_of};
-use crate::start::{MAX_FREEZE, Start, freezes_a_file, start_in, with_start};
+use crate::search_options::matches_in;
 use clap::{ArgMatches, Command};
+use ih_arguments::arguments::{named, with};
+use ih_arguments::file_names::names_differ;
+use ih_arguments::matches::text_of;
+use ih_arguments::start::{Start, freezes_a_file, start_in, with_start};
 use std::alloc::{AllocError, Global};
 
 /// `replay INSTANCE JOURNAL OUT` or `salvage INSTANCE JOURNAL OUT`, with its options.

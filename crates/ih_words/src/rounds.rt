@@ -1,6 +1,7 @@
 //! The command `rounds`: its values and when they are lawful.
 ghost use Rattle.std.specs.Prelude.{IfOk, map, string_bytes};
-ghost use Rattle.ih_words.specs.Matches.{IsAnswer, call_by};
+ghost use Rattle.ih_arguments.specs.Matches.{call_by};
+ghost use Rattle.ih_words.specs.SearchOptions.{IsAnswer};
 ghost use Rattle.ih_words.specs.Rounds.{IsLawfulRounds, lawful_rounds, rounds_app, rounds_call};
 
 use crate::WordsError;

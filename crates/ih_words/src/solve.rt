@@ -1,16 +1,19 @@
 //! The command `solve`: its description for `clap`, its values and when they are lawful.
 ghost use Rattle.std.specs.Prelude.{◌≡◌, ◌≤◌, IfSome, IfOk, true, codes, map, option_map, string_bytes};
 ghost use Rattle.clap.specs.Words.{app_of, found_of, rows_of};
-ghost use Rattle.ih_words.specs.Matches.{HasNames, HasOptions, IsNumberIfGiven, IsAnswer, call_by};
+ghost use Rattle.ih_arguments.specs.Matches.{HasNames, IsNumberIfGiven, call_by};
+ghost use Rattle.ih_words.specs.SearchOptions.{HasOptions, IsAnswer};
 ghost use Rattle.ih_words.specs.Solve.{is_lawful_solve, lawful_solve, search_app, solve_app, solve_call, solve_in};
 ghost use Rattle.ih_journal.specs.Settings.{IsLawful, most_entries};
+ghost use Rattle.ih_plan.specs.declared.limits.TheConstants.{MAX_FREEZE};
 
 use crate::WordsError;
-use crate::arguments::{named, optional_number, with, with_options};
-use crate::file_names::names_differ;
-use crate::matches::{matches_in, optional_u32_of, options_in, text_of};
-use crate::start::{MAX_FREEZE, Start, freezes_a_file, start_in, with_start};
+use crate::search_options::{matches_in, options_in, with_options};
 use clap::{ArgMatches, Command};
+use ih_arguments::arguments::{named, optional_number, with};
+use ih_arguments::file_names::names_differ;
+use ih_arguments::matches::{optional_u32_of, text_of};
+use ih_arguments::start::{Start, freezes_a_file, start_in, with_start};
 use ih_journal::{MAX_ENTRIES, MAX_RETRIES, Options};
 use std::alloc::{AllocError, Global};
 

@@ -7,7 +7,7 @@ use Rattle.ih_journal.specs.Base.{Base}
 use Rattle.ih_journal.specs.Best.{BestIs}
 use Rattle.ih_journal.specs.Legal.{IsFull}
 use Rattle.ih_cellbook.specs.Legal.{AreExact}
-use Rattle.ih_history.proofs.LegalEntries.{moves-in, prices-of}
+use Rattle.ih_cellbook.proofs.LegalEntries.{moves-in, prices-of}
 use Rattle.ih_chain.specs.Entries.{chain_tried, chain_tries}
 use Rattle.ih_chain.specs.Runs.{best_plan}
 use Rattle.ih_chain.proofs.BestPlaces.{best-inside}

@@ -5,4 +5,6 @@ use Rattle.ih_page.proofs.day_heads.put_day_head.Goals as goal
 
 pub returns : goal.returns
 unfolding day_head
-returns c = on_ok_weaker c.put_dated_if.result (λ d. joins2 _ _ _ _ _ c.in_ok-put_labelled.ensures d) c.put_dated_if.ensures
+returns c =
+    on_ok_weaker c.put_dated_if.result
+    (λ d. joins2 _ _ _ _ _ c.in_ok-put_labelled.ensures (rw c.date_of.ensures at d)) c.put_dated_if.ensures

@@ -1,5 +1,5 @@
 use Rattle.std.proofs.Common.{◌∙◌, ap, refl, sym, subst, [], ◌∷◌, ◌++◌}
-use Rattle.ih_journal.specs.declared.refusals.Reason.TheVariants.{Price, Verdict}
+use Rattle.ih_tables.specs.declared.journal_refusals.Reason.TheVariants.{Price, Verdict}
 use Rattle.ih_cellbook.specs.Replicas.{IsReplicaIn}
 use Rattle.ih_cellbook.proofs.Within.{stands-behind, stands-same}
 use Rattle.ih_cellbook.specs.Singles.{offered_of}

@@ -1,7 +1,7 @@
 use Rattle.std.proofs.Common.{◌∙◌, sym, ap, subst, refl, [], ◌∷◌, length}
 use Rattle.std.proofs.lemmas.List.{length-map}
 use Rattle.ih_journal.specs.declared.settings.Options.{Options}
-use Rattle.ih_journal.specs.declared.refusals.Reason.TheVariants.{Grammar, Place}
+use Rattle.ih_tables.specs.declared.journal_refusals.Reason.TheVariants.{Grammar, Place}
 use Rattle.ih_journal.specs.Grammar.{IsLineOf}
 use Rattle.ih_journal.specs.Tried.{tried}
 use Rattle.ih_replay.proofs.taking.read.Goals as goal

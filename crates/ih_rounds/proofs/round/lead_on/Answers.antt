@@ -3,7 +3,7 @@ use Rattle.std.proofs.lemmas.List.{length-map}
 use Rattle.ih_journal.specs.Tried.{tried, tries}
 use Rattle.ih_journal.specs.History.{after_entries}
 use Rattle.ih_cellbook.specs.Keeping.{base_with}
-use Rattle.ih_history.proofs.LegalEntries.{moves-in}
+use Rattle.ih_cellbook.proofs.LegalEntries.{moves-in}
 use Rattle.ih_rounds.specs.Rounds.{next_start}
 use Rattle.ih_rounds.specs.Steps.{end_of}
 use Rattle.ih_rounds.proofs.Leading.{end-inside, few-entries, leads, over}

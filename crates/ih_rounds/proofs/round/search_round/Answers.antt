@@ -6,7 +6,7 @@ use Rattle.ih_journal.specs.Legal.{IsFull}
 use Rattle.ih_journal.specs.Settings.{IsLawful}
 use Rattle.ih_journal.specs.Tried.{tries}
 use Rattle.ih_cellbook.specs.Keeping.{base_with}
-use Rattle.ih_history.proofs.LegalEntries.{prices-in}
+use Rattle.ih_cellbook.proofs.LegalEntries.{prices-in}
 use Rattle.ih_rounds.specs.Steps.{HasRound, IsAnswer, LeadsOn}
 use Rattle.ih_rounds.specs.Answers.{with_answers}
 use Rattle.ih_rounds.proofs.Leading.{few-entries}

@@ -1,7 +1,7 @@
 use Rattle.std.proofs.Common.{◌≡◌, ◌<◌, ◌∷◌, [], ◌∙◌, ap, List, sym, subst, length, arith}
 use Rattle.std.specs.List.{list_any}
 use Rattle.std.proofs.lemmas.List.{nil_from_length}
-use Rattle.ih_journal.specs.Frozen.{is_frozen_write}
+use Rattle.ih_plan.specs.Frozen.{is_frozen_write}
 use Rattle.ih_plan.proofs.PlanRanges.{expand-writes}
 use Rattle.ih_plan.specs.declared.moves.Move.{Move}
 use Rattle.ih_plan.specs.Series.{AreMoves, expand_all}

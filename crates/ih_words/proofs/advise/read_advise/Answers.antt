@@ -1,10 +1,10 @@
 use Rattle.std.proofs.Common.{codes, refl}
 use Rattle.clap.proofs.OnLiterals.{clap_on_literals}
-use Rattle.ih_journal.specs.declared.settings.TheConstants.{MAX_HARD, MAX_WORKERS}
+use Rattle.ih_plan.specs.declared.limits.TheConstants.{MAX_HARD, MAX_WORKERS}
 use Rattle.ih_words.specs.Advise.{advise_app}
-use Rattle.ih_words.specs.Arguments.{numbered_option}
-use Rattle.ih_words.specs.Distinct.{all_differ}
-use Rattle.ih_words.proofs.DescriptionRules.{has_files, requires_name, requires_number}
+use Rattle.ih_arguments.specs.Arguments.{numbered_option}
+use Rattle.ih_arguments.specs.Distinct.{all_differ}
+use Rattle.ih_arguments.proofs.DescriptionRules.{has_files, requires_name, requires_number}
 use Rattle.ih_words.proofs.advise.read_advise.Goals as goal
 
 pub matches_in-requires : goal.matches_in-requires

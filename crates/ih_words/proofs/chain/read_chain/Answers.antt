@@ -2,7 +2,7 @@ use Rattle.std.proofs.Common.{◌∙◌, ap, codes, option_map, refl}
 use Rattle.std.proofs.lemmas.Result.{err_from_is_err_and}
 use Rattle.clap.proofs.OnLiterals.{clap_on_literals}
 use Rattle.ih_words.specs.Chain.{ChainCall, chain_app}
-use Rattle.ih_words.specs.Distinct.{all_differ}
+use Rattle.ih_arguments.specs.Distinct.{all_differ}
 use Rattle.ih_words.specs.Plain.{PlainCall, plain_app}
 use Rattle.ih_words.specs.declared.chain.TheConstants.{MAX_LENGTH}
 use Rattle.ih_words.proofs.PlainValues.{moved}

@@ -1,8 +1,8 @@
 use Rattle.std.proofs.Common.{refl}
 use Rattle.clap.proofs.OnLiterals.{clap_on_literals}
 use Rattle.ih_words.specs.Check.{check_app}
-use Rattle.ih_words.specs.Distinct.{all_differ}
-use Rattle.ih_words.proofs.DescriptionRules.{has_files, requires_name}
+use Rattle.ih_arguments.specs.Distinct.{all_differ}
+use Rattle.ih_arguments.proofs.DescriptionRules.{has_files, requires_name}
 use Rattle.ih_words.proofs.check.read_check.Goals as goal
 
 pub matches_in-requires : goal.matches_in-requires

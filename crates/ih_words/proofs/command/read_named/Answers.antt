@@ -1,5 +1,5 @@
 use Rattle.std.proofs.Common.{refl}
-use Rattle.ih_words.proofs.CommandNames.{other}
+use Rattle.ih_arguments.proofs.FirstWords.{other}
 use Rattle.ih_words.proofs.command.read_named.Goals as goal
 
 -- a name that is no command's

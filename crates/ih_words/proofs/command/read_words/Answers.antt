@@ -1,6 +1,6 @@
 use Rattle.std.proofs.Common.{◌≡◌, ◌∙◌, ap, sym, Option, Some, None, Result, Ok, Err, IfOk, IfErr}
 use Rattle.std.specs.Option.{option_copied}
-use Rattle.ih_words.specs.Matches.{IsAnswer}
+use Rattle.ih_words.specs.SearchOptions.{IsAnswer}
 use Rattle.ih_words.specs.Words.{command_call}
 use Rattle.ih_words.specs.declared.error.WordsError.{WordsError}
 use Rattle.ih_words.specs.declared.error.WordsError.TheVariants.{Unlawful}

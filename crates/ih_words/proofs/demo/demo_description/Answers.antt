@@ -2,7 +2,7 @@ use Rattle.std.proofs.Common.{◌≡◌}
 use Rattle.std.proofs.lemmas.Result.{IfOk-weaker}
 use Rattle.clap.specs.Words.{app_of}
 use Rattle.ih_words.specs.Demo.{demo_app}
-use Rattle.ih_words.proofs.DescriptionRules.{adds_rule}
+use Rattle.ih_arguments.proofs.DescriptionRules.{adds_rule}
 use Rattle.ih_words.proofs.demo.demo_description.Goals as goal
 
 pub returns : goal.returns

@@ -1,9 +1,9 @@
 use Rattle.std.proofs.Common.{codes, refl}
 use Rattle.clap.proofs.OnLiterals.{clap_on_literals}
-use Rattle.ih_words.specs.Arguments.{named, named_number}
-use Rattle.ih_words.specs.Distinct.{all_differ}
+use Rattle.ih_arguments.specs.Arguments.{named, named_number}
+use Rattle.ih_arguments.specs.Distinct.{all_differ}
 use Rattle.ih_words.specs.Generate.{gen_app}
-use Rattle.ih_words.proofs.DescriptionRules.{requires_name, requires_named_number}
+use Rattle.ih_arguments.proofs.DescriptionRules.{requires_name, requires_named_number}
 use Rattle.ih_words.proofs.generate.read_gen.Goals as goal
 
 pub matches_in-requires : goal.matches_in-requires

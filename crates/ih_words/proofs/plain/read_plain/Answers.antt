@@ -3,9 +3,10 @@ use Rattle.std.specs.Prelude.{IfSome, ok_or}
 use Rattle.clap.specs.Words.{App, Row, Rule, Text, app_of, found_of, is_simple_and_free, matches_of, rows_of}
 use Rattle.ih_journal.specs.Settings.{most_entries}
 use Rattle.ih_journal.specs.declared.settings.TheConstants.{MAX_ENTRIES}
-use Rattle.ih_words.specs.Matches.{HasNumber, IsAnswer, call_by, has_no_fault, number_at}
+use Rattle.ih_arguments.specs.Matches.{HasNumber, call_by, has_no_fault, number_at}
+use Rattle.ih_words.specs.SearchOptions.{IsAnswer}
 use Rattle.ih_words.specs.Plain.{IsPlain, IsPlainWith, PlainCall, lawful_plain_to, plain_app, plain_call}
-use Rattle.ih_words.specs.Rules.{RequiresNumber, has_independent_rules}
+use Rattle.ih_arguments.specs.Rules.{RequiresNumber, has_independent_rules}
 use Rattle.ih_words.specs.declared.error.WordsError.TheVariants.{Unlawful}
 use Rattle.ih_words.specs.declared.solve.Solve.{Solve}
 use Rattle.ih_words.proofs.PlainValues.{has_plain, has_plain_number, lawful_plain_to-within, plain_number-within}

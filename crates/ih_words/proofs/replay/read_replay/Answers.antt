@@ -1,12 +1,12 @@
 use Rattle.std.proofs.Common.{◌∙◌, ap, sym, subst, codes, refl}
 use Rattle.clap.specs.Words.{App, is_simple_and_free}
 use Rattle.clap.proofs.OnLiterals.{clap_on_literals}
-use Rattle.ih_words.specs.Arguments.{named, optional_number}
-use Rattle.ih_words.specs.Distinct.{all_differ}
+use Rattle.ih_arguments.specs.Arguments.{named, optional_number}
+use Rattle.ih_arguments.specs.Distinct.{all_differ}
 use Rattle.ih_words.specs.Replay.{replay_app}
-use Rattle.ih_words.specs.Rules.{Requires, TakesNumber, has_independent_rules}
-use Rattle.ih_words.specs.declared.start.TheConstants.{MAX_FREEZE}
-use Rattle.ih_words.proofs.DescriptionRules.{requires_name, takes_number}
+use Rattle.ih_arguments.specs.Rules.{Requires, TakesNumber, has_independent_rules}
+use Rattle.ih_plan.specs.declared.limits.TheConstants.{MAX_FREEZE}
+use Rattle.ih_arguments.proofs.DescriptionRules.{requires_name, takes_number}
 use Rattle.ih_words.proofs.replay.read_replay.Goals as goal
 
 pub matches_in-requires : goal.matches_in-requires

@@ -1,11 +1,12 @@
 use Rattle.std.proofs.Common.{codes, refl}
 use Rattle.clap.proofs.OnLiterals.{clap_on_literals}
-use Rattle.ih_journal.specs.declared.settings.TheConstants.{MAX_HARD, MAX_HEAT, MAX_MOVES, MAX_RETRIES, MAX_WORKERS}
-use Rattle.ih_words.specs.Arguments.{named, numbered_option, optional_number, seed_option}
-use Rattle.ih_words.specs.Distinct.{all_differ}
+use Rattle.ih_plan.specs.declared.limits.TheConstants.{MAX_HARD, MAX_HEAT, MAX_WORKERS}
+use Rattle.ih_journal.specs.declared.settings.TheConstants.{MAX_MOVES, MAX_RETRIES}
+use Rattle.ih_arguments.specs.Arguments.{named, numbered_option, optional_number, seed_option}
+use Rattle.ih_arguments.specs.Distinct.{all_differ}
 use Rattle.ih_words.specs.Solve.{solve_app}
-use Rattle.ih_words.specs.declared.start.TheConstants.{MAX_FREEZE}
-use Rattle.ih_words.proofs.DescriptionRules.{requires_name, requires_number, takes_number}
+use Rattle.ih_plan.specs.declared.limits.TheConstants.{MAX_FREEZE}
+use Rattle.ih_arguments.proofs.DescriptionRules.{requires_name, requires_number, takes_number}
 use Rattle.ih_words.proofs.solve.read_solve.Goals as goal
 
 pub matches_in-requires : goal.matches_in-requires

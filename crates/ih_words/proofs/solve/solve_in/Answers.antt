@@ -2,7 +2,7 @@ use Rattle.std.proofs.Common.{◌≡◌, ℕ, ◌≤◌, arith, refl, codes, Opt
 use Rattle.std.specs.Option.{option_map_or}
 use Rattle.clap.specs.Words.{IsUnsignedIn, Text, found_of, one_of, rows_of}
 use Rattle.ih_journal.specs.declared.settings.TheConstants.{MAX_RETRIES}
-use Rattle.ih_words.specs.Matches.{number_of}
+use Rattle.ih_arguments.specs.Matches.{number_of}
 use Rattle.ih_words.proofs.solve.solve_in.Goals as goal
 
 -- a number that may be left out is at most what it may be

@@ -6,7 +6,7 @@ use Rattle.ih_journal.specs.Tried.{Tried, tried}
 use Rattle.ih_journal.specs.Base.{Base}
 use Rattle.ih_journal.specs.Best.{HasNone, IsBest}
 use Rattle.ih_journal.specs.History.{after_entries, plan_at}
-use Rattle.ih_history.proofs.LegalEntries.{moves-in}
+use Rattle.ih_cellbook.proofs.LegalEntries.{moves-in}
 use Rattle.ih_replay.proofs.Singles.{as-taken}
 use Rattle.ih_replay.proofs.replays.Replay.best_plan.Goals as goal
 

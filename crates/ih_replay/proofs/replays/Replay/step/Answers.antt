@@ -1,7 +1,7 @@
 use Rattle.std.proofs.Common.{◌≡◌, ◌+◌, ◌∙◌, ap, sym, subst, length}
 use Rattle.std.proofs.lemmas.List.{with_items_is}
 use Rattle.ih_tables.specs.Valid.{IsValid}
-use Rattle.ih_journal.specs.declared.refusals.JournalRefusal.{JournalRefusal}
+use Rattle.ih_tables.specs.declared.journal_refusals.JournalRefusal.{JournalRefusal}
 use Rattle.ih_journal.specs.Base.{Base}
 use Rattle.ih_replay.specs.Keeping.{IsReplayed}
 use Rattle.ih_replay.specs.ReplayState.{ReplayState}

@@ -7,7 +7,8 @@ use Rattle.ih_tables.specs.declared.drafts.Draft.{Draft}
 use Rattle.ih_plan.specs.declared.moves.Move.{Move}
 use Rattle.ih_plan.specs.Timetable.{Timetable}
 use Rattle.ih_plan.specs.Series.{expand_all, price_of_all}
-use Rattle.ih_journal.specs.Frozen.{is_frozen, is_frozen_write}
+use Rattle.ih_plan.specs.Frozen.{is_frozen_write}
+use Rattle.ih_journal.specs.Frozen.{is_frozen}
 use Rattle.ih_cellbook.specs.Counters.{is_compared}
 use Rattle.ih_cellbook.specs.Keeping.{base_with}
 use Rattle.ih_cellbook.specs.Offered.{Offered}

@@ -1,0 +1,55 @@
+-- The rules of a command's description: what an argument adds to them, and what the rule at a place requires.
+use Rattle.std.proofs.Common.{◌≡◌, ◌∙◌, ap₂, ℕ, [], Result, Ok, Err, Some, false, refl, List, codes}
+use Rattle.std.specs.declared.alloc.AllocError.{AllocError}
+use Rattle.std.specs.Prelude.{slice_get}
+use Rattle.clap.specs.Built.{AddsArg}
+use Rattle.clap.specs.Words.{App, Row, Rule, Text, app_of, new_app, rule_of, with_rule}
+use Rattle.clap.specs.declared.builder.arg.Arg.{Arg}
+use Rattle.clap.specs.declared.builder.command.Command.{Command}
+use Rattle.ih_arguments.specs.Arguments.{named, named_number, numbered_option, optional_between, optional_number}
+use Rattle.ih_arguments.specs.Matches.{HasFiles, HasText}
+use Rattle.ih_arguments.specs.Rules.{Requires, RequiresNumber, TakesNumber}
+
+-- the app of a description, where there is one
+abbrev pub app_in : Result Command AllocError → App
+app_in (Ok command) = app_of command
+app_in (Err _) = new_app []
+
+-- an argument adds its rule
+pub adds_rule : {old new : Command} {arg : Arg} {app : App} {rule : Rule} → app_of old ≡ app → AddsArg old arg new → arg.global ≡ false → rule_of arg ≡ rule
+    → app_of new ≡ with_rule app rule
+adds_rule before added local rule = added.shape local ∙ ap₂ with_rule before rule
+
+pub requires_name : {app : App} {k : ℕ} {id : Text} → slice_get app.top.rules k ≡ Some (named id)
+    → Requires app k (named id)
+requires_name place = record { place = place; required = refl; action = refl; range = refl }
+
+-- the two files of a command that begins with them are there
+pub has_files : {app : App} {rows : List Row} → ((k : ℕ) (rule : Rule) → Requires app k rule → HasText rule.id rows)
+    → Requires app 0 (named (codes "INSTANCE")) → Requires app 1 (named (codes "SOLUTION")) → HasFiles rows
+has_files texts first second = record {
+  instance = texts 0 (named (codes "INSTANCE")) first;
+  solution = texts 1 (named (codes "SOLUTION")) second;
+}
+
+pub requires_named_number : {app : App} {k : ℕ} {id : Text} → slice_get app.top.rules k ≡ Some (named_number id)
+    → RequiresNumber app k (named_number id) 0 18446744073709551615
+requires_named_number place = record {
+  value = record { place = place; required = refl; action = refl; range = refl };
+  parser = refl;
+}
+
+pub requires_number : {app : App} {k : ℕ} {id : Text} {low high : ℕ} → slice_get app.top.rules k ≡ Some (numbered_option id low high)
+    → RequiresNumber app k (numbered_option id low high) low high
+requires_number place = record {
+  value = record { place = place; required = refl; action = refl; range = refl };
+  parser = refl;
+}
+
+pub takes_between : {app : App} {k : ℕ} {id : Text} {low high : ℕ} → slice_get app.top.rules k ≡ Some (optional_between id low high)
+    → TakesNumber app k (optional_between id low high) low high
+takes_between place = record { place = place; range = refl; parser = refl }
+
+pub takes_number : {app : App} {k : ℕ} {id : Text} {high : ℕ} → slice_get app.top.rules k ≡ Some (optional_number id high)
+    → TakesNumber app k (optional_number id high) 0 high
+takes_number place = takes_between place

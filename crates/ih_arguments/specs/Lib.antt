@@ -1,0 +1,5 @@
+pub mod Arguments
+pub mod Distinct
+pub mod Matches
+pub mod Rules
+pub mod Start

@@ -1,0 +1,106 @@
+//! The rules of the commands' arguments, for `clap`.
+ghost use Rattle.std.specs.Prelude.{◌≡◌, IfOk, false};
+ghost use Rattle.clap.specs.Words.{App, Rule, app_of, rule_of, with_rule};
+ghost use Rattle.ih_arguments.specs.Arguments.{IsChanged, any_number_option, files_app, flag, named, named_number};
+ghost use Rattle.ih_arguments.specs.Arguments.{numbered_option, optional, optional_between, optional_number, seed_option};
+
+use clap::{Arg, ArgAction, Command, value_parser};
+use std::alloc::{AllocError, Global};
+
+/// A required argument with one value, by its place.
+pub fn named<'a>(alloc: Global, id: &'a str) -> Arg<'a>
+    ensures rule { rule_of result ≡ named id.entry.now }
+    ensures local { result.global ≡ false }
+{
+    Arg::new(alloc, id).required(true).action(ArgAction::Set)
+}
+
+/// A required number of 64 bits, by its place.
+pub fn named_number<'a>(alloc: Global, id: &'a str) -> Arg<'a>
+    ensures rule { rule_of result ≡ named_number id.entry.now }
+    ensures local { result.global ≡ false }
+{
+    named(alloc, id).value_parser(value_parser!(u64))
+}
+
+/// A required `--id N`, where N is a number from `low` to `high`.
+pub fn numbered_option<'a>(alloc: Global, id: &'a str, low: u32, high: u32) -> Arg<'a>
+    ensures rule { rule_of result ≡ numbered_option id.entry.now low high }
+    ensures local { result.global ≡ false }
+{
+    named(alloc, id)
+        .long(id)
+        .value_parser(value_parser!(u64).range(i64::from(low)..=i64::from(high)))
+}
+
+/// A required `--id N`, where N is any number of 64 bits.
+pub fn any_number_option<'a>(alloc: Global, id: &'a str) -> Arg<'a>
+    ensures rule { rule_of result ≡ any_number_option id.entry.now }
+    ensures local { result.global ≡ false }
+{
+    named(alloc, id).long(id).value_parser(value_parser!(u64))
+}
+
+/// `--seed N`, where N is any number of 64 bits.
+pub fn seed_option<'a>(alloc: Global) -> Arg<'a>
+    ensures rule { rule_of result ≡ seed_option }
+    ensures local { result.global ≡ false }
+{
+    any_number_option(alloc, "seed")
+}
+
+/// `--id VALUE`, which may be left out.
+pub fn optional<'a>(alloc: Global, id: &'a str) -> Arg<'a>
+    ensures rule { rule_of result ≡ optional id.entry.now }
+    ensures local { result.global ≡ false }
+{
+    Arg::new(alloc, id).long(id).action(ArgAction::Set)
+}
+
+/// `--id N`, which may be left out, where N is a number from `low` to `high`.
+pub fn optional_between<'a>(alloc: Global, id: &'a str, low: u32, high: u32) -> Arg<'a>
+    ensures rule { rule_of result ≡ optional_between id.entry.now low high }
+    ensures local { result.global ≡ false }
+{
+    optional(alloc, id).value_parser(value_parser!(u64).range(i64::from(low)..=i64::from(high)))
+}
+
+/// `--id N`, which may be left out, where N is at most `high`.
+pub fn optional_number<'a>(alloc: Global, id: &'a str, high: u32) -> Arg<'a>
+    ensures rule { rule_of result ≡ optional_number id.entry.now high }
+    ensures local { result.global ≡ false }
+{
+    optional_between(alloc, id, 0, high)
+}
+
+/// The flag `--id`.
+pub fn flag<'a>(alloc: Global, id: &'a str) -> Arg<'a>
+    ensures rule { rule_of result ≡ flag id.entry.now }
+    ensures local { result.global ≡ false }
+{
+    Arg::new(alloc, id).long(id).action(ArgAction::SetTrue)
+}
+
+/// The description with one argument more, where there was memory for it. Lack of memory is passed on, so that a whole
+/// description has no branches.
+pub fn with<'a>(
+    description: Result<Command<'a>, AllocError>,
+    argument: Arg<'a>,
+) -> Result<Command<'a>, AllocError>
+    requires { argument.global ≡ false }
+    ensures { (app : App) (rule : Rule) → IfOk description.entry (λ c. app_of c ≡ app) → rule_of argument.entry ≡ rule
+        → IfOk result (λ c. app_of c ≡ with_rule app rule) }
+{
+    match description {
+        Ok(command) => command.arg(argument),
+        Err(e) => Err(e),
+    }
+}
+
+/// `NAME INSTANCE SOLUTION`.
+pub fn files_description<'a>(alloc: Global, name: &'a str) -> Result<Command<'a>, AllocError>
+    ensures { IfOk result (λ c. app_of c ≡ files_app name.entry.now) }
+{
+    let instance = with(Ok(Command::new(alloc, name)), named(alloc, "INSTANCE"));
+    with(instance, named(alloc, "SOLUTION"))
+}

@@ -1,0 +1,8 @@
+//! The arguments of a command line, for any program: the rules by which `clap` reads them, the values that it gives, and
+//! what words have to fulfil besides: file names that differ, and what a search starts from.
+#![tactic(auto)]
+
+pub mod arguments;
+pub mod file_names;
+pub mod matches;
+pub mod start;

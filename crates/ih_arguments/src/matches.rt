@@ -1,0 +1,99 @@
+//! What `clap` reads of the words of a command, and the values that it gives to the arguments.
+ghost use Rattle.std.specs.Prelude.{◌≡◌, ℕ, IfErr, IfOk, true, map, option_map, string_bytes};
+ghost use Rattle.clap.specs.Words.{App, HasKind, Rule, app_of, fault_of, first_of, found_of, is_simple_and_free};
+ghost use Rattle.clap.specs.Words.{matches_of, rows_of};
+ghost use Rattle.ih_arguments.specs.Matches.{HasNumber, HasText, IsNumberIfGiven, flag_at, has_no_fault};
+ghost use Rattle.ih_arguments.specs.Matches.{is_given, number_at, number_if_given, text_at};
+ghost use Rattle.ih_arguments.specs.Rules.{Requires, RequiresNumber, TakesNumber, has_independent_rules};
+
+use clap::ArgMatches;
+use std::alloc::AllocError;
+
+/// What `clap` reads of the words of a command with this description, or its error, which has a text for the user.
+pub fn matched<'a>(
+    description: Result<clap::Command<'a>, AllocError>,
+    words: &'a [String],
+) -> Result<ArgMatches<'a>, clap::Error>
+    ghost app: { App }
+    requires described { IfOk description (λ d. app_of d ≡ app) }
+    requires simple { is_simple_and_free app ≡ true }
+    requires independent { has_independent_rules app ≡ true }
+    ensures no_fault { IfOk result (λ m. has_no_fault app (map string_bytes words.entry.now) ≡ true) }
+    ensures rows { IfOk result (λ m. rows_of (found_of m) ≡ matches_of app (map string_bytes words.entry.now)) }
+    ensures texts { IfOk result
+        (λ m. (k : ℕ) (rule : Rule) → Requires app k rule → HasText rule.id (rows_of (found_of m))) }
+    ensures numbers { IfOk result
+        (λ m. (k : ℕ) (rule : Rule) (low high : ℕ) → RequiresNumber app k rule low high
+        → HasNumber low high rule.id (rows_of (found_of m))) }
+    ensures optional { IfOk result
+        (λ m. (k : ℕ) (rule : Rule) (low high : ℕ) → TakesNumber app k rule low high
+        → IsNumberIfGiven low high rule.id (rows_of (found_of m))) }
+    ensures faults { IfErr result (HasKind (fault_of app (map string_bytes words.entry.now))) }
+{
+    let command = description?;
+    match command.try_get_matches_from(words) {
+        Ok(matches) => Ok(matches),
+        Err(error) => Err(error),
+    }
+}
+
+/// The text of an argument that has one.
+pub fn text_of<'a>(matches: &ArgMatches<'a>, id: &str) -> &'a str
+    requires { HasText id.now (rows_of (found_of matches.now)) }
+    ensures { result.now ≡ text_at id.now (rows_of (found_of matches.now)) }
+{
+    matches.get_str(id).unwrap()
+}
+
+/// The text of an argument that may be left out.
+pub fn optional_text_of<'a>(matches: &ArgMatches<'a>, id: &str) -> Option<&'a str>
+    ensures { option_map (λ t. t.now) result ≡ first_of id.now (rows_of (found_of matches.now)) }
+{
+    matches.get_str(id)
+}
+
+/// The argument was given.
+pub fn is_given(matches: &ArgMatches, id: &str) -> bool
+    ensures { result ≡ is_given id.now (rows_of (found_of matches.now)) }
+{
+    optional_text_of(matches, id).is_some()
+}
+
+/// Whether the flag was given.
+pub fn flag_of(matches: &ArgMatches, id: &str) -> bool
+    ensures { result ≡ flag_at id.now (rows_of (found_of matches.now)) }
+{
+    matches.get_one::<bool>(id).unwrap_or(false)
+}
+
+/// The number of an argument that has one.
+pub fn u64_of(matches: &ArgMatches, id: &str) -> u64
+    requires { HasNumber 0 18446744073709551615 id.now (rows_of (found_of matches.now)) }
+    ensures { result ≡ number_at id.now (rows_of (found_of matches.now)) }
+{
+    matches.get_one::<u64>(id).unwrap()
+}
+
+/// The same, of a number that fits 32 bits.
+pub fn u32_of(matches: &ArgMatches, id: &str) -> u32
+    requires { HasNumber 0 4294967295 id.now (rows_of (found_of matches.now)) }
+    ensures { result ≡ number_at id.now (rows_of (found_of matches.now)) }
+{
+    matches.get_one::<u32>(id).unwrap()
+}
+
+/// The number of an argument that may be left out, and 0 then.
+pub fn optional_u32_of(matches: &ArgMatches, id: &str) -> u32
+    requires { IsNumberIfGiven 0 4294967295 id.now (rows_of (found_of matches.now)) }
+    ensures { result ≡ number_at id.now (rows_of (found_of matches.now)) }
+{
+    matches.get_one::<u32>(id).unwrap_or(0)
+}
+
+/// The number of an argument that may be left out.
+pub fn number_if_given(matches: &ArgMatches, id: &str) -> Option<u32>
+    requires { IsNumberIfGiven 0 4294967295 id.now (rows_of (found_of matches.now)) }
+    ensures { result ≡ number_if_given id.now (rows_of (found_of matches.now)) }
+{
+    matches.get_one::<u32>(id)
+}

@@ -1,0 +1,53 @@
+//! What a search starts from, and the first day whose choices it may change: `--start F`, `--freeze DAY` and `--fill`.
+ghost use Rattle.std.specs.Prelude.{◌≡◌, codes};
+ghost use Rattle.clap.specs.Words.{found_of, rows_of};
+ghost use Rattle.ih_arguments.specs.Start.{freezes_a_file, start_call, start_in, with_start};
+ghost use Rattle.ih_arguments.specs.{Arguments.IsChanged, Matches.IsNumberIfGiven};
+
+use crate::arguments::{flag, optional, optional_number, with};
+use crate::matches::{flag_of, is_given, optional_text_of, optional_u32_of};
+use clap::{ArgMatches, Command};
+use ih_plan::MAX_FREEZE;
+use std::alloc::{AllocError, Global};
+
+/// What a search starts from.
+#[derive(Clone, Copy, Debug)]
+pub struct Start<'a> {
+    /// The name of the file with the timetable, where one is given; else it is the empty timetable.
+    pub file: Option<&'a str>,
+    /// Whether the timetable is filled before the search.
+    pub fill: bool,
+    /// The first day whose choices may change; 0 where none is given.
+    pub freeze: u32,
+}
+
+/// The description with `--start F`, `--freeze DAY` and `--fill`.
+pub fn with_start<'a>(
+    alloc: Global,
+    description: Result<Command<'a>, AllocError>,
+) -> Result<Command<'a>, AllocError>
+    ensures { IsChanged with_start description.entry result }
+{
+    let start = with(description, optional(alloc, "start"));
+    let freeze = with(start, optional_number(alloc, "freeze", MAX_FREEZE));
+    with(freeze, flag(alloc, "fill"))
+}
+
+/// What the search starts from.
+pub fn start_in<'a>(matches: &ArgMatches<'a>) -> Start<'a>
+    requires { IsNumberIfGiven 0 MAX_FREEZE (codes "freeze") (rows_of (found_of matches.now)) }
+    ensures { start_call result ≡ start_in (rows_of (found_of matches.now)) }
+{
+    Start {
+        file: optional_text_of(matches, "start"),
+        fill: flag_of(matches, "fill"),
+        freeze: optional_u32_of(matches, "freeze"),
+    }
+}
+
+/// A freeze day is given only where the timetable of a file is taken as it is.
+pub fn freezes_a_file(matches: &ArgMatches) -> bool
+    ensures { result ≡ freezes_a_file (rows_of (found_of matches.now)) }
+{
+    !is_given(matches, "freeze") || is_given(matches, "start") && !flag_of(matches, "fill")
+}

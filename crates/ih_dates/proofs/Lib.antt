@@ -1,2 +1,0 @@
-pub mod CalendarSteps
-pub mod Written

@@ -1,4 +1,0 @@
-pub mod EntrySteps
-pub mod LegalEntries
-pub mod MoveSteps
-pub mod WriteSteps
