@@ -1,19 +1,19 @@
 -- Calls that come no further than their files.
-use Rattle.std.proofs.Common.{◌≡◌, ◌∙◌, ℕ, refl, sym, ap, subst, List, [], Option, Some}
+use Rattle.std.proofs.Common.{◌≡◌, ◌∙◌, ℕ, refl, sym, ap, subst, inl, inr, List, [], Option, Some}
 use Rattle.std.specs.Prelude.{unwrap_or}
 use Rattle.ih_shelf.specs.Outside.{Names}
 use Rattle.ih_inputs.specs.Errors.{HasFaultCause}
 use Rattle.ih_inputs.specs.Reading.{IsUnread, InputFiles, name_in}
 use Rattle.ih_answers.specs.Texts.{memory_text}
-use Rattle.ih_inputs.specs.declared.error.InputRole.TheVariants.{Instance as InstanceInput, Solution as SolutionInput}
+use Rattle.ih_inputs.specs.declared.error.InputRole.TheVariants.{Instance as InstanceInput, Journal as JournalInput, Older as OlderInput, Solution as SolutionInput}
 use Rattle.ih_inputs.specs.declared.error.InputError.{InputError}
-use Rattle.ih_inputs.specs.declared.error.InputError.TheVariants.{ReadFault as Unreadable, TooLong as Long, InstanceRefused as NoInstance, SolutionRefused as NoSolution, OutOfMemory as NoRoom}
+use Rattle.ih_inputs.specs.declared.error.InputError.TheVariants.{ReadFault as Unreadable, TooLong as Long, InstanceRefused as NoInstance, OlderRefused as NoOlder, SolutionRefused as NoSolution, OutOfMemory as NoRoom}
 use Rattle.ih_answers.specs.declared.answer.Answer.{Answer}
-use Rattle.ih_answers.specs.declared.status.Role.TheVariants.{Journal, Out}
+use Rattle.ih_answers.specs.declared.status.Role.TheVariants.{Out}
 use Rattle.ih_answers.specs.declared.status.Status.{Status}
 use Rattle.ih_answers.specs.declared.status.Status.TheVariants.{Done, Usage, ReadFault, InstanceRefused, StartRefused, NoneFound, WriteFault, OutOfMemory, JournalRefused, Infeasible, TooLong}
-use Rattle.ih_answers.specs.Answers.{Answers, HasFileCause}
-use Rattle.ih_answers.specs.Inputs.{EndsUnread, IsUnreadInputs, role_in, unread_said, unread_status}
+use Rattle.ih_answers.specs.Answers.{Answers, HasFileCause, IsSaid}
+use Rattle.ih_answers.specs.Inputs.{EndsUnread, IsUnreadInputs, refused_said, role_in, unread_said, unread_status}
 use Rattle.ih_answers.proofs.Saying.{IsAnswerable, said-answer, said-status, unsaid-by}
 
 -- ---- their statuses
@@ -22,23 +22,26 @@ use Rattle.ih_answers.proofs.Saying.{IsAnswerable, said-answer, said-status, uns
 abbrev pub IsUnreadStatus : Status → Type 0
 IsUnreadStatus Done = ⊥
 IsUnreadStatus Usage = ⊥
-IsUnreadStatus (ReadFault Journal) = ⊥
 IsUnreadStatus (ReadFault Out) = ⊥
 IsUnreadStatus NoneFound = ⊥
 IsUnreadStatus (WriteFault role) = ⊥
 IsUnreadStatus (JournalRefused e) = ⊥
 IsUnreadStatus Infeasible = ⊥
-IsUnreadStatus (TooLong Journal) = ⊥
 IsUnreadStatus (TooLong Out) = ⊥
 IsUnreadStatus status = Unit {0}
 
 error-status : (e : InputError) → IsUnreadStatus (unread_status e)
 error-status (Unreadable InstanceInput) = tt
 error-status (Unreadable SolutionInput) = tt
+error-status (Unreadable OlderInput) = tt
+error-status (Unreadable JournalInput) = tt
 error-status (Long InstanceInput) = tt
 error-status (Long SolutionInput) = tt
+error-status (Long OlderInput) = tt
+error-status (Long JournalInput) = tt
 error-status (NoInstance e) = tt
 error-status (NoSolution e) = tt
+error-status (NoOlder e) = tt
 error-status NoRoom = tt
 
 -- the name of a timetable's file
@@ -59,12 +62,20 @@ module _ (files : Option Names) (r : InputFiles) where
   lack-said (Long role) is = absurd (let clash : OutOfMemory ≡ TooLong (role_in role) = is in cc)
   lack-said (NoInstance e) is = absurd (let clash : OutOfMemory ≡ InstanceRefused e = is in cc)
   lack-said (NoSolution e) is = absurd (let clash : OutOfMemory ≡ StartRefused e = is in cc)
+  lack-said (NoOlder e) is = absurd (let clash : OutOfMemory ≡ StartRefused e = is in cc)
   lack-said NoRoom is = refl
 
   pub unread-lack : (text : List ℕ) → EndsUnread files r OutOfMemory text → text ≡ memory_text
   unread-lack text (e, is, said, why) = said ∙ lack-said e is
 
   -- ---- the answer
+
+  -- an answer that was given its file's name
+  pub refused_answer : (status : Status) (text : List ℕ) (name : List ℕ) (a b : Answer) → IsSaid status text a
+      → IsSaid a.status (refused_said r.are_said name a.text.items) b → IsSaid status (refused_said r.are_said name text) b
+  refused_answer status text name a b h (inl lack) = inl lack
+  refused_answer status text name a b (inl lack) (inr (same, said)) = inl (same ∙ lack)
+  refused_answer status text name a b (inr (is, made)) (inr (same, said)) = inr (same ∙ is, said ∙ ap (refused_said r.are_said name) made)
 
   pub unread-answerable : IsAnswerable (EndsUnread files r)
   unread-answerable = record {

@@ -5,13 +5,10 @@ use Rattle.ih_shelf.specs.declared.outside.Shelf.{Ghosts as ShelfGhosts}
 use Rattle.ih_shelf.specs.declared.outside.Sink.{Ghosts as SinkGhosts}
 use Rattle.ih_shelf.specs.declared.outside.WriteError.{WriteError}
 use Rattle.ih_shelf.specs.declared.outside.WriteError.TheVariants.{Fault, OutOfMemory as NoMemory}
-use Rattle.ih_shelf.specs.declared.outside.ReadError.{ReadError}
-use Rattle.ih_shelf.specs.declared.outside.ReadError.TheVariants.{Fault as Unreadable, TooLong as Long, OutOfMemory as NoRoom}
 use Rattle.ih_answers.specs.declared.answer.Answer.{Answer}
 use Rattle.ih_answers.specs.declared.status.Status.{Status}
-use Rattle.ih_answers.specs.declared.status.Status.TheVariants.{Done, ReadFault, WriteFault, OutOfMemory, Infeasible, TooLong}
-use Rattle.ih_answers.specs.declared.status.Role.{Role}
-use Rattle.ih_answers.specs.Texts.{memory_text, unread_text, too_long_text}
+use Rattle.ih_answers.specs.declared.status.Status.TheVariants.{Done, ReadFault, WriteFault, OutOfMemory, Infeasible}
+use Rattle.ih_answers.specs.Texts.{memory_text}
 
 -- a status whose text couldn't be put out
 abbrev pub unsaid : Status → Status
@@ -69,9 +66,3 @@ IsSaidOf view status (Err e) a = a.status ≡ OutOfMemory
 abbrev pub IsUnwritten : Status → List ℕ → WriteError → Answer → Type 0
 IsUnwritten status text Fault a = IsSaid status text a
 IsUnwritten status text NoMemory a = a.status ≡ OutOfMemory
-
--- a file that couldn't be read
-abbrev pub IsUnreadFile : Role → List ℕ → ReadError → Answer → Type 0
-IsUnreadFile role name Unreadable a = IsSaid (ReadFault role) (unread_text name) a
-IsUnreadFile role name Long a = IsSaid (TooLong role) (too_long_text name) a
-IsUnreadFile role name NoRoom a = a.status ≡ OutOfMemory

@@ -24,6 +24,14 @@ instance_refused_text r = codes "instance refused: " ++ (refusal_text r ++ codes
 abbrev pub solution_refused_text : Refusal → List ℕ
 solution_refused_text r = codes "solution refused: " ++ (refusal_text r ++ codes "\n")
 
+-- an older solution's fault, and its place
+abbrev pub older_refused_text : Refusal → List ℕ
+older_refused_text r = codes "older solution refused: " ++ (refusal_text r ++ codes "\n")
+
+-- a text after the name of the file that it is about
+abbrev pub after_name : List ℕ → List ℕ → List ℕ
+after_name name text = name ++ (codes ": " ++ text)
+
 -- no timetable was found that breaks no hard rule
 abbrev pub none_found_text : List ℕ
 none_found_text = codes "none found\n"

@@ -34,6 +34,7 @@ pub fn conclude_memory<R: Print, O: Sink>(rt: &R, out: &mut O) -> Status
         ⊎ ReceivedPart (O.text out.old) (O.text out.new) (O.lacks out.old) (O.lacks out.new) memory_text }
     ensures once { IfTold IsOnePutAtMost (O.puts out.old) (O.puts out.new) }
     ensures count { O.faults out.old ≤ O.faults out.new }
+    ensures lack_count { O.lacks out.old ≤ O.lacks out.new }
 {
     match out.put(rt, b"out of memory\n") {
         Ok(()) => Status::OutOfMemory,
@@ -49,6 +50,8 @@ pub fn conclude<R: Print, O: Sink>(rt: &R, out: &mut O, answer: &Answer) -> Stat
         (ReceivedPart (O.text out.old) (O.text out.new) (O.lacks out.old) (O.lacks out.new)) result }
     ensures once { IfTold IsOnePutAtMost (O.puts out.old) (O.puts out.new) }
     ensures cause { HasSinkCause O.Sink out.old out.new answer.now.status result }
+    ensures count { O.faults out.old ≤ O.faults out.new }
+    ensures lack_count { O.lacks out.old ≤ O.lacks out.new }
 {
     if let Status::OutOfMemory = answer.status {
         return conclude_memory(rt, out);

@@ -7,9 +7,6 @@ mod status;
 mod texts;
 
 pub use answer::{Answer, conclude, conclude_memory};
-pub use inputs::{read_or_answer, unread_file};
+pub use inputs::read_or_answer;
 pub use status::{Role, Status};
-pub use texts::{
-    instance_refused, none_found, out_of_memory, said, solution_refused, too_long, unread,
-    unwritten,
-};
+pub use texts::{none_found, out_of_memory, said, unwritten};

@@ -3,8 +3,7 @@
 ghost use Rattle.std.specs.Prelude.{◌≡◌};
 ghost use Rattle.ih_answers.specs.Codes.{code_of};
 
-use ih_journal::JournalRefusal;
-use ih_tables::Refusal;
+use ih_tables::{JournalRefusal, Refusal};
 
 /// What a file is to the command that reads or writes it.
 #[derive(Clone, Copy, Debug, PartialEq, Eq)]

@@ -5,14 +5,21 @@ use Rattle.ih_shelf.specs.declared.outside.Shelf.{Ghosts as ShelfGhosts}
 use Rattle.ih_shelf.specs.declared.outside.ReadError.{ReadError}
 use Rattle.ih_shelf.specs.declared.outside.ReadError.TheVariants.{Fault as Unreadable, TooLong as Long, OutOfMemory as NoRoom}
 use Rattle.ih_inputs.specs.declared.error.InputError.{InputError}
-use Rattle.ih_inputs.specs.declared.error.InputError.TheVariants.{ReadFault, OutOfMemory, TooLong}
+use Rattle.ih_tables.specs.declared.refusals.Refusal.{Refusal}
+use Rattle.ih_inputs.specs.declared.error.InputError.TheVariants.{ReadFault, OlderRefused, OutOfMemory, SolutionRefused, TooLong}
 use Rattle.ih_inputs.specs.declared.error.InputRole.{InputRole}
+use Rattle.ih_inputs.specs.declared.error.InputRole.TheVariants.{Older}
 
 -- why a file gave no bytes
 abbrev pub error_of_file : InputRole → ReadError → InputError
 error_of_file role Unreadable = ReadFault role
 error_of_file role Long = TooLong role
 error_of_file role NoRoom = OutOfMemory
+
+-- a timetable's refusal, by what its file is to the call
+abbrev pub refused_as : InputRole → Refusal → InputError
+refused_as Older e = OlderRefused e
+refused_as role e = SolutionRefused e
 
 -- a fault is answered only where the count of those of reads rose
 abbrev pub HasFaultCause : ℕ → ℕ → InputError → Type 0

@@ -1,30 +1,73 @@
--- The files that a call reads: an instance, and a timetable where a file is named for it.
-use Rattle.std.specs.Prelude.{◌≡◌, ℕ, ◌≤◌, ◌<◌, List, [], length, option_map, unwrap_or, Option, Some, None, Ok, Err, IfSome}
+-- The files that a call reads: an instance, and where files are named for them a timetable, an older one and a journal.
+use Rattle.std.specs.Prelude.{◌≡◌, ℕ, ◌≤◌, ◌<◌, Bool, false, true, List, [], length, option_map, unwrap_or, Option, Some, None, Ok, Err, IfSome}
 use Rattle.ih_tables.specs.declared.drafts.Draft.{Draft}
 use Rattle.ih_tables.specs.declared.refusals.Refusal.{Refusal}
-use Rattle.ih_plan.specs.Timetable.{Timetable, empty}
+use Rattle.ih_plan.specs.Timetable.{IsPlanOf, Timetable, empty}
 use Rattle.ih_instance.specs.Instance.{instance}
 use Rattle.ih_solution.specs.Reading.{plan_in}
 use Rattle.ih_shelf.specs.Outside.{Names, bytes_at}
+use Rattle.ih_inputs.specs.Errors.{refused_as}
 use Rattle.ih_inputs.specs.declared.reading.InputNames.{InputNames}
-use Rattle.ih_inputs.specs.declared.reading.TheConstants.{MAX_FILE}
+use Rattle.ih_inputs.specs.declared.reading.Inputs.{Inputs}
+use Rattle.ih_inputs.specs.declared.reading.TheConstants.{MAX_FILE, MAX_JOURNAL}
 use Rattle.ih_inputs.specs.declared.error.InputError.{InputError}
-use Rattle.ih_inputs.specs.declared.error.InputError.TheVariants.{ReadFault, InstanceRefused, SolutionRefused, OutOfMemory, TooLong}
+use Rattle.ih_inputs.specs.declared.error.InputError.TheVariants.{ReadFault, InstanceRefused, OlderRefused, SolutionRefused, OutOfMemory, TooLong}
 use Rattle.ih_inputs.specs.declared.error.InputRole.{InputRole}
-use Rattle.ih_inputs.specs.declared.error.InputRole.TheVariants.{Instance, Solution}
+use Rattle.ih_inputs.specs.declared.error.InputRole.TheVariants.{Instance, Journal, Older, Solution}
 
 -- the names of these files
 pub record InputFiles : Type 0 where
   pub instance : List ℕ
   pub solution : Option (List ℕ)
+  pub older : Option (List ℕ)
+  pub journal : Option (List ℕ)
+  -- what is said of a refused file begins with its name
+  pub are_said : Bool
 
 abbrev pub files_of : InputNames → InputFiles
-files_of n = record { instance = n.instance.now; solution = option_map (λ t. t.now) n.solution }
+files_of n = record {
+  instance = n.instance.now;
+  solution = option_map (λ t. t.now) n.solution;
+  older = option_map (λ t. t.now) n.older;
+  journal = option_map (λ t. t.now) n.journal;
+  are_said = n.are_said;
+}
+
+-- an instance, and a timetable where a file is named for it
+abbrev pub two_files : List ℕ → Option (List ℕ) → InputFiles
+two_files instance solution =
+    record { instance = instance; solution = solution; older = None; journal = None; are_said = false }
+
+-- the same, and what is said of a refused one begins with its name
+abbrev pub said_files : List ℕ → Option (List ℕ) → InputFiles
+said_files instance solution = record (two_files instance solution) { are_said = true }
 
 -- the name of the file with this role, where it has one
 abbrev pub name_in : InputFiles → InputRole → List ℕ
 name_in r Instance = r.instance
 name_in r Solution = unwrap_or r.solution []
+name_in r Older = unwrap_or r.older []
+name_in r Journal = unwrap_or r.journal []
+
+-- what such files give
+pub record Given : Type 0 where
+  pub instance : Draft
+  pub plan : Timetable
+  pub older : Option Timetable
+  pub journal : Option (List ℕ)
+
+abbrev pub given_of : Inputs → Given
+given_of i = record {
+  instance = i.inst.value.draft;
+  plan = i.plan;
+  older = i.older;
+  journal = option_map (λ v. v.items) i.journal;
+}
+
+-- its timetables are of its instance
+pub record ArePlans (i : Inputs) : Type 0 where
+  pub plan : IsPlanOf i.inst.value.draft i.plan
+  pub older : IfSome i.older (IsPlanOf i.inst.value.draft)
 
 -- ---- where a shelf tells what it holds
 
@@ -57,6 +100,11 @@ IsInstanceRefused name e files = IsReadAs instance name (Err e) files
 abbrev pub IsSolutionRefused : List ℕ → Draft → Refusal → Names → Type 0
 IsSolutionRefused name I e files = IsReadAs (plan_in I) name (Err e) files
 
+-- the file is within the limit of a journal, and has these bytes
+pub record HasBytes (name bytes : List ℕ) (files : Names) : Type 0 where
+  pub short : length bytes ≤ MAX_JOURNAL
+  pub held : bytes_at files name ≡ bytes
+
 -- ---- what a shelf gives, as far as it tells
 
 -- the timetable of the file that is named for it; where none is, nobody is admitted and there are no nurses
@@ -64,18 +112,61 @@ abbrev pub HasPlan : Option Names → Option (List ℕ) → Draft → Timetable 
 HasPlan files None I P = P ≡ empty I
 HasPlan files (Some name) I P = IfSome files (HasSolution name I P)
 
--- what the files give
+-- what the files of the instance and of the timetable give
 pub record HasInputs (files : Option Names) (r : InputFiles) (I : Draft) (P : Timetable) : Type 0 where
   pub instance : IfSome files (HasInstance r.instance I)
   pub plan : HasPlan files r.solution I P
+
+-- the timetable of the older solution's file, where one is named
+abbrev pub HasOlder : Option Names → Option (List ℕ) → Draft → Option Timetable → Type 0
+HasOlder files None I older = older ≡ None
+HasOlder files (Some name) I None = ⊥
+HasOlder files (Some name) I (Some O) = IfSome files (HasSolution name I O)
+
+-- the bytes of the journal, where one is named
+abbrev pub HasJournal : Option Names → Option (List ℕ) → Option (List ℕ) → Type 0
+HasJournal files None journal = journal ≡ None
+HasJournal files (Some name) None = ⊥
+HasJournal files (Some name) (Some bytes) = IfSome files (HasBytes name bytes)
+
+-- what all files of a call give
+pub record HasGiven (files : Option Names) (r : InputFiles) (g : Given) : Type 0 where
+  pub inputs : HasInputs files r g.instance g.plan
+  pub older : HasOlder files r.older g.instance g.older
+  pub journal : HasJournal files r.journal g.journal
+
+-- ---- why the files can't be had
 
 -- the instance is accepted, and a file for the timetable is named
 pub record IsNext (files : Option Names) (r : InputFiles) (I : Draft) (name : List ℕ) : Type 0 where
   pub instance : IfSome files (HasInstance r.instance I)
   pub named : r.solution ≡ Some name
 
--- Why the files can't be had. The instance comes first, then the timetable; of each file first its length, then its
--- form.
+-- the instance and the timetable are accepted, and a file for an older one is named
+pub record IsOlderNext (files : Option Names) (r : InputFiles) (I : Draft) (name : List ℕ) : Type 0 where
+  pub plan : Timetable
+  pub inputs : HasInputs files r I plan
+  pub named : r.older ≡ Some name
+
+-- the instance and the timetables are accepted, and a journal is named
+pub record IsJournalNext (files : Option Names) (r : InputFiles) (name : List ℕ) : Type 0 where
+  pub instance : Draft
+  pub plan : Timetable
+  pub older : Option Timetable
+  pub inputs : HasInputs files r instance plan
+  pub older_is : HasOlder files r.older instance older
+  pub named : r.journal ≡ Some name
+
+-- Why a solution's file gives no timetable of the instance: first its length counts, then its form.
+abbrev pub IsNoPlan : InputRole → Option Names → List ℕ → Draft → InputError → Type 0
+IsNoPlan role files name I (ReadFault of) = of ≡ role
+IsNoPlan role files name I (TooLong of) = (of ≡ role) × IfSome files (IsLong name)
+IsNoPlan role files name I OutOfMemory = Unit {0}
+IsNoPlan role files name I error =
+    (e : Refusal) × (error ≡ refused_as role e) × IfSome files (IsSolutionRefused name I e)
+
+-- Why the files can't be had. The instance comes first, then the timetable, the older one and the journal; of each file
+-- first its length, then its form.
 abbrev pub IsUnread : Option Names → InputFiles → InputError → Type 0
 IsUnread files r (ReadFault Instance) = Unit {0}
 IsUnread files r (TooLong Instance) = IfSome files (IsLong r.instance)
@@ -85,4 +176,12 @@ IsUnread files r (TooLong Solution) =
     (I : Draft) × (name : List ℕ) × IsNext files r I name × IfSome files (IsLong name)
 IsUnread files r (SolutionRefused e) =
     (I : Draft) × (name : List ℕ) × IsNext files r I name × IfSome files (IsSolutionRefused name I e)
+IsUnread files r (ReadFault Older) = (I : Draft) × (name : List ℕ) × IsOlderNext files r I name
+IsUnread files r (TooLong Older) =
+    (I : Draft) × (name : List ℕ) × IsOlderNext files r I name × IfSome files (IsLong name)
+IsUnread files r (OlderRefused e) =
+    (I : Draft) × (name : List ℕ) × IsOlderNext files r I name × IfSome files (IsSolutionRefused name I e)
+IsUnread files r (ReadFault Journal) = (name : List ℕ) × IsJournalNext files r name
+IsUnread files r (TooLong Journal) =
+    (name : List ℕ) × IsJournalNext files r name × IfSome files (IsLongerThan MAX_JOURNAL name)
 IsUnread files r OutOfMemory = Unit {0}

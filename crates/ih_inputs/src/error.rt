@@ -9,6 +9,9 @@ use thiserror::Error;
 pub enum InputRole {
     Instance,
     Solution,
+    /// A second solution of the instance, with which the first is compared.
+    Older,
+    Journal,
 }
 
 impl fmt::Display for InputRole {
@@ -16,6 +19,8 @@ impl fmt::Display for InputRole {
         f.write_str(match self {
             InputRole::Instance => "instance",
             InputRole::Solution => "solution",
+            InputRole::Older => "older solution",
+            InputRole::Journal => "journal",
         })
     }
 }
@@ -33,6 +38,9 @@ pub enum InputError {
     /// The timetable's first refusal.
     #[error("solution refused: {0}")]
     SolutionRefused(Refusal),
+    /// The older timetable's first refusal.
+    #[error("older solution refused: {0}")]
+    OlderRefused(Refusal),
     #[error("out of memory")]
     OutOfMemory,
 }

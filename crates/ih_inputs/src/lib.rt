@@ -1,4 +1,5 @@
-//! What a program is given: the words of its command line, and the files of an instance and of a timetable for it.
+//! What a program is given: the words of its command line, and the files of an instance, of timetables for it and of a
+//! journal.
 #![tactic(auto)]
 
 mod error;
@@ -6,5 +7,5 @@ mod reading;
 mod words;
 
 pub use error::{InputError, InputRole};
-pub use reading::{InputNames, Inputs, MAX_FILE, read_inputs};
+pub use reading::{InputNames, Inputs, MAX_FILE, MAX_JOURNAL, read_inputs};
 pub use words::run_with_words;

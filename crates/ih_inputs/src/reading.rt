@@ -1,27 +1,35 @@
-//! The files of an instance and of a timetable, read by their names.
+//! The files that a call reads, by their names: an instance, a timetable for it, an older one and a journal.
 
-ghost use Rattle.std.specs.Prelude.{◌≡◌, IfOk, IfErr, IfSome, Some};
+ghost use Rattle.std.specs.Prelude.{◌≡◌, IfOk, IfErr, IfSome, option_map};
 ghost use Rattle.ih_plan.specs.Timetable.{IsPlanOf};
-ghost use Rattle.ih_inputs.specs.Errors.{error_of_file, HasOnlyRead, HasReadCause};
-ghost use Rattle.ih_inputs.specs.Reading.{name_in, files_of, HasInstance, HasSolution, HasInputs, IsUnread};
+ghost use Rattle.ih_inputs.specs.Errors.{error_of_file, refused_as, HasOnlyRead, HasReadCause};
+ghost use Rattle.ih_inputs.specs.Reading.{name_in, files_of, given_of, ArePlans, HasGiven, HasInputs, HasInstance};
+ghost use Rattle.ih_inputs.specs.Reading.{HasJournal, HasOlder, HasSolution, IsNoPlan, IsUnread};
 
 use crate::error::{InputError, InputRole};
 use ih_instance::{InstanceError, read_instance};
 use ih_plan::Plan;
 use ih_shelf::{ReadError, Shelf};
 use ih_solution::{SolutionError, read_solution};
-use ih_tables::Instance;
+use ih_tables::{Instance, Refusal};
 use std::alloc::{AllocError, Global};
 use std::rt::Files;
 
 /// The most bytes of an instance or a solution file.
 pub const MAX_FILE: u64 = 67_108_864;
+/// The most bytes of a journal.
+pub const MAX_JOURNAL: u64 = 268_435_456;
 
-/// The names of the files.
+/// The names of the files. All but the instance may be left out.
 #[derive(Clone, Copy)]
 pub struct InputNames<'a> {
     pub instance: &'a str,
     pub solution: Option<&'a str>,
+    /// A second solution of the instance.
+    pub older: Option<&'a str>,
+    pub journal: Option<&'a str>,
+    /// Whether what is said of a refused file begins with its name.
+    pub are_said: bool,
 }
 
 impl<'a> InputNames<'a> {
@@ -32,6 +40,8 @@ impl<'a> InputNames<'a> {
         match role {
             InputRole::Instance => self.instance,
             InputRole::Solution => self.solution.unwrap_or(""),
+            InputRole::Older => self.older.unwrap_or(""),
+            InputRole::Journal => self.journal.unwrap_or(""),
         }
     }
 }
@@ -42,6 +52,9 @@ pub struct Inputs {
     // In a place of its own: it is handed on as an address.
     pub inst: Box<Instance>,
     pub plan: Plan,
+    pub older: Option<Plan>,
+    /// The bytes of the journal.
+    pub journal: Option<Vec<u8>>,
 }
 
 // Why a file gave no bytes.
@@ -85,53 +98,140 @@ fn read_instance_file<R: Files, S: Shelf>(
     }
 }
 
-fn read_plan_file<R: Files, S: Shelf>(
+// A timetable's refusal, by what its file is to the call.
+fn refused_as(role: InputRole, refusal: Refusal) -> InputError
+    ensures { result ≡ refused_as role refusal }
+{
+    match role {
+        InputRole::Older => InputError::OlderRefused(refusal),
+        _ => InputError::SolutionRefused(refusal),
+    }
+}
+
+// The timetable of a solution's file.
+fn read_plan<R: Files, S: Shelf>(
     rt: &R,
     alloc: Global,
-    names: &InputNames<'_>,
+    role: InputRole,
     name: &str,
     inst: &Instance,
     shelf: &mut S,
 ) -> Result<Plan, InputError>
-    requires instance { IfSome (S.names shelf.old) (HasInstance names.now.instance.now inst.now.draft) }
-    requires named { (files_of names.now).solution ≡ Some name.now }
     ensures plan { IfOk result (IsPlanOf inst.now.draft) }
     ensures read { IfOk result (λ p. IfSome (S.names shelf.old) (HasSolution name.now inst.now.draft p)) }
-    ensures unread { IfErr result (IsUnread (S.names shelf.old) (files_of names.now)) }
+    ensures unread { IfErr result (IsNoPlan role (S.names shelf.old) name.now inst.now.draft) }
     ensures cause { IfErr result (HasReadCause S.Shelf shelf.old shelf.new) }
     ensures only { HasOnlyRead S.Shelf shelf.old shelf.new }
 {
     match shelf.read(rt, alloc, name, MAX_FILE) {
         Ok(bytes) => match read_solution(alloc, inst, bytes.as_slice()) {
             Ok(plan) => Ok(plan),
-            Err(SolutionError::Refused(refusal)) => Err(InputError::SolutionRefused(refusal)),
+            Err(SolutionError::Refused(refusal)) => Err(refused_as(role, refusal)),
             Err(SolutionError::OutOfMemory) => Err(InputError::OutOfMemory),
         },
-        Err(error) => Err(error_of_file(InputRole::Solution, error)),
+        Err(error) => Err(error_of_file(role, error)),
     }
 }
 
-/// Reads the instance, then the timetable of its file, or takes the empty one where no file is named for it. Where one
-/// of them can't be had, the error says why.
+// The timetable of the solution's file, or the empty one where no file is named for it.
+fn read_first_plan<R: Files, S: Shelf>(
+    rt: &R,
+    alloc: Global,
+    names: &InputNames<'_>,
+    inst: &Instance,
+    shelf: &mut S,
+) -> Result<Plan, InputError>
+    requires { IfSome (S.names shelf.old) (HasInstance names.now.instance.now inst.now.draft) }
+    ensures plan { IfOk result (IsPlanOf inst.now.draft) }
+    ensures read { IfOk result (HasInputs (S.names shelf.old) (files_of names.now) inst.now.draft) }
+    ensures unread { IfErr result (IsUnread (S.names shelf.old) (files_of names.now)) }
+    ensures cause { IfErr result (HasReadCause S.Shelf shelf.old shelf.new) }
+    ensures only { HasOnlyRead S.Shelf shelf.old shelf.new }
+{
+    match names.solution {
+        Some(name) => read_plan(rt, alloc, InputRole::Solution, name, inst, shelf),
+        None => match Plan::empty(alloc, inst) {
+            Ok(plan) => Ok(plan),
+            Err(_) => Err(InputError::OutOfMemory),
+        },
+    }
+}
+
+// The timetable of the older solution's file, where one is named. The contract speaks of the first one too.
+fn read_older<R: Files, S: Shelf>(
+    rt: &R,
+    alloc: Global,
+    names: &InputNames<'_>,
+    inst: &Instance,
+    _plan: &Plan,
+    shelf: &mut S,
+) -> Result<Option<Plan>, InputError>
+    requires { HasInputs (S.names shelf.old) (files_of names.now) inst.now.draft _plan.now }
+    ensures plan { IfOk result (λ o. IfSome o (IsPlanOf inst.now.draft)) }
+    ensures read { IfOk result (HasOlder (S.names shelf.old) (files_of names.now).older inst.now.draft) }
+    ensures unread { IfErr result (IsUnread (S.names shelf.old) (files_of names.now)) }
+    ensures cause { IfErr result (HasReadCause S.Shelf shelf.old shelf.new) }
+    ensures only { HasOnlyRead S.Shelf shelf.old shelf.new }
+{
+    match names.older {
+        Some(name) => match read_plan(rt, alloc, InputRole::Older, name, inst, shelf) {
+            Ok(plan) => Ok(Some(plan)),
+            Err(error) => Err(error),
+        },
+        None => Ok(None),
+    }
+}
+
+// The bytes of the journal, where one is named. The contract speaks of what was read before too.
+fn read_journal<R: Files, S: Shelf>(
+    rt: &R,
+    alloc: Global,
+    names: &InputNames<'_>,
+    _inst: &Instance,
+    _plan: &Plan,
+    _older: &Option<Plan>,
+    shelf: &mut S,
+) -> Result<Option<Vec<u8>>, InputError>
+    requires inputs { HasInputs (S.names shelf.old) (files_of names.now) _inst.now.draft _plan.now }
+    requires older { HasOlder (S.names shelf.old) (files_of names.now).older _inst.now.draft _older.now }
+    ensures read { IfOk result
+        (λ j. HasJournal (S.names shelf.old) (files_of names.now).journal (option_map (λ v. v.items) j)) }
+    ensures unread { IfErr result (IsUnread (S.names shelf.old) (files_of names.now)) }
+    ensures cause { IfErr result (HasReadCause S.Shelf shelf.old shelf.new) }
+    ensures only { HasOnlyRead S.Shelf shelf.old shelf.new }
+{
+    match names.journal {
+        Some(name) => match shelf.read(rt, alloc, name, MAX_JOURNAL) {
+            Ok(bytes) => Ok(Some(bytes)),
+            Err(error) => Err(error_of_file(InputRole::Journal, error)),
+        },
+        None => Ok(None),
+    }
+}
+
+/// Reads the instance; then the timetable of its file, or takes the empty one where no file is named for it; then the
+/// older timetable and the journal, where files are named for them. Where one of them can't be had, the error says why,
+/// and nothing behind it is read.
 pub fn read_inputs<R: Files, S: Shelf>(
     rt: &R,
     alloc: Global,
     names: &InputNames<'_>,
     shelf: &mut S,
 ) -> Result<Inputs, InputError>
-    ensures plan { IfOk result (λ i. IsPlanOf i.inst.value.draft i.plan) }
-    ensures read { IfOk result (λ i. HasInputs (S.names shelf.old) (files_of names.now) i.inst.value.draft i.plan) }
+    ensures plans { IfOk result ArePlans }
+    ensures read { IfOk result (λ i. HasGiven (S.names shelf.old) (files_of names.now) (given_of i)) }
     ensures unread { IfErr result (IsUnread (S.names shelf.old) (files_of names.now)) }
     ensures cause { IfErr result (HasReadCause S.Shelf shelf.old shelf.new) }
     ensures only { HasOnlyRead S.Shelf shelf.old shelf.new }
 {
     let inst = read_instance_file(rt, alloc, names, shelf)?;
-    let Some(name) = names.solution else {
-        return match Plan::empty(alloc, &*inst) {
-            Ok(plan) => Ok(Inputs { inst, plan }),
-            Err(_) => Err(InputError::OutOfMemory),
-        };
-    };
-    let plan = read_plan_file(rt, alloc, names, name, &*inst, shelf)?;
-    Ok(Inputs { inst, plan })
+    let plan = read_first_plan(rt, alloc, names, &*inst, shelf)?;
+    let older = read_older(rt, alloc, names, &*inst, &plan, shelf)?;
+    let journal = read_journal(rt, alloc, names, &*inst, &plan, &older, shelf)?;
+    Ok(Inputs {
+        inst,
+        plan,
+        older,
+        journal,
+    })
 }

@@ -1,135 +1,69 @@
 -- A call whose files are accepted, and in which no count rose, comes to its end.
-use Rattle.std.proofs.Common.{◌≡◌, ◌∙◌, ℕ, refl, sym, subst, arith, inl, inr, List, Option, Some, None}
-use Rattle.std.specs.Prelude.{Result, Ok, Err}
+use Rattle.std.proofs.Common.{◌≡◌, ℕ, refl, ap, inl, inr, Bool, true, false, List, Option, Some, None}
+use Rattle.std.specs.Prelude.{if◌then◌else◌}
 use Rattle.clap.specs.Words.{Text}
-use Rattle.ih_tables.specs.declared.drafts.Draft.{Draft}
-use Rattle.ih_tables.specs.declared.refusals.Refusal.{Refusal}
-use Rattle.ih_plan.specs.Timetable.{Timetable}
+use Rattle.ih_tables.specs.Bills.{feasible}
+use Rattle.ih_plan.specs.BillOf.{bill_of}
+use Rattle.ih_validate.specs.Report.{report}
+use Rattle.ih_improve.specs.ImproverState.{ImproverState}
+use Rattle.ih_improve.specs.Legs.{Leaves as WorkerLeaves}
+use Rattle.ih_answers.specs.Texts.{none_found_text}
 use Rattle.ih_shelf.specs.Outside.{Names, Rose}
-use Rattle.ih_inputs.specs.declared.error.InputError.{InputError}
-use Rattle.ih_inputs.specs.declared.error.InputError.TheVariants.{ReadFault as Unreadable, TooLong as Long, InstanceRefused as NoInstance, SolutionRefused as NoSolution, OutOfMemory as NoRoom}
-use Rattle.ih_inputs.specs.declared.error.InputRole.TheVariants.{Instance as InstanceInput, Solution as SolutionInput}
-use Rattle.ih_inputs.specs.Reading.{HasInputs, HasInstance, HasPlan, HasSolution, InputFiles, IsNext, IsUnread}
+use Rattle.ih_inputs.specs.Reading.{Given, HasGiven}
 use Rattle.ih_answers.specs.declared.status.Status.{Status}
-use Rattle.ih_answers.specs.declared.status.Status.TheVariants.{Done, Infeasible, ReadFault, StartRefused, NoneFound, WriteFault, OutOfMemory, TooLong}
-use Rattle.ih_answers.specs.declared.status.Role.TheVariants.{Solution}
-use Rattle.ih_answers.specs.Ends.{Ends, HasCause}
-use Rattle.ih_answers.specs.Inputs.{unread_status}
+use Rattle.ih_answers.specs.declared.status.Status.TheVariants.{Done, NoneFound, OutOfMemory}
+use Rattle.ih_answers.specs.Ends.{HasCause}
+use Rattle.ih_frame.specs.Ends.{AreAnswers, HasNoFault}
+use Rattle.ih_frame.specs.Outcomes.{OutcomeState, says}
+use Rattle.ih_frame.proofs.Complete.{accepted, command-answered, no-fault, reached, steps-answered}
 use Rattle.ih_planning.specs.Bound.{BoundCall, bound_inputs}
-use Rattle.ih_planning.specs.Bounding.{BoundEnds}
+use Rattle.ih_planning.specs.Bounding.{IsBounded, bound_status}
 use Rattle.ih_planning.specs.Ends.{CallEnds, HasFiles, IsAnswered, IsComplete, Leaves}
 use Rattle.ih_planning.specs.Improve.{ImproveCall, improve_inputs}
-use Rattle.ih_planning.specs.Older.{EndsOlderUnread, HasOlder}
+use Rattle.ih_planning.specs.Rounds.{IsRound, IsSearched}
 use Rattle.ih_planning.specs.Searching.{ImproveEnds}
-use Rattle.ih_planning.specs.Unread.{EndsUnread}
 use Rattle.ih_planning.specs.View.{ViewCall, view_inputs}
-use Rattle.ih_planning.specs.Viewing.{ViewEnds}
+use Rattle.ih_planning.specs.Viewing.{IsViewed}
 use Rattle.ih_planning.specs.Words.{Call, bound, improve, view}
-
--- ---- the status
-
--- the status of a call in which no read, write or put failed
-abbrev HasNoFault : Status → Type 0
-HasNoFault (ReadFault role) = ⊥
-HasNoFault (WriteFault role) = ⊥
-HasNoFault status = Unit {0}
-
-module _ (reads reads' writes writes' puts puts' : ℕ) (calm : (Rose reads reads' → ⊥)) (kept : (Rose writes writes' → ⊥)) (heard : (Rose puts puts' → ⊥)) where
-  -- where no count rose there is no fault
-  no-fault : (status : Status) → HasCause reads reads' writes writes' puts puts' status → HasNoFault status
-  no-fault (ReadFault role) cause = calm cause
-  no-fault (WriteFault None) cause = heard cause
-  no-fault (WriteFault (Some role)) cause = kept cause
-  no-fault status cause = tt
-
--- what holds of each end of a family, and where memory runs out, holds of the status that a call of it ends in
-reached : (answer : Status → Type 0) (ends : Status → List ℕ → Type 0) (why : Status → Type 0) (received part : List ℕ → Type 0) → answer OutOfMemory
-    → ((status : Status) (text : List ℕ) → HasNoFault status → ends status text → answer status)
-    → (status : Status) → HasNoFault status → Ends ends why received part status → answer status
-reached answer ends why received part memory f OutOfMemory calm h = memory
-reached answer ends why received part memory f status calm (text, h, g) = f status text calm h
-
--- ---- files that are accepted
-
-not-both : {A : Type 0} (r : Result A Refusal) (x : A) (e : Refusal) → r ≡ Ok x → r ≡ Err e → ⊥
-not-both r x e ok err = let clash : Ok x ≡ Err e = sym ok ∙ err in cc
-
-module _ (files : Names) (r : InputFiles) (I : Draft) (P : Timetable) (has : HasInputs (Some files) r I P) where
-  -- a file for the timetable gives it
-  given : (J : Draft) (name : List ℕ) → IsNext (Some files) r J name → HasSolution name J P files
-  given J name next =
-      let same : Ok I ≡ Ok J = sym has.instance.read ∙ next.instance.read in
-      let here : I ≡ J = cc in
-      subst (λ (X : Draft). HasSolution name X P files) here (subst (λ o. HasPlan (Some files) o I P) next.named has.plan)
-
-  -- with no fault, only lack of memory stops the reading
-  by-error : (e : InputError) → HasNoFault (unread_status e) → IsUnread (Some files) r e → unread_status e ≡ OutOfMemory
-  by-error (Unreadable role) calm h = absurd calm
-  by-error (Long InstanceInput) calm h = absurd (let short = has.instance.short in let long = h in omega arith)
-  by-error (Long SolutionInput) calm (J, name, next, long) = absurd (let short = (given J name next).short in omega arith)
-  by-error (NoInstance e) calm h = absurd (not-both _ I e has.instance.read h.read)
-  by-error (NoSolution e) calm (J, name, next, refused) =
-      absurd (not-both _ P e (given J name next).read refused.read)
-  by-error NoRoom calm h = refl
-
-  accepted : (status : Status) (text : List ℕ) → HasNoFault status → EndsUnread (Some files) r status text → status ≡ OutOfMemory
-  accepted status text calm (unnamed, (e, is, said, why), named) = is ∙ by-error e (subst HasNoFault is calm) why
 
 -- ---- the commands
 
-improved : (c : ImproveCall) (files : Names) (new : Option Names) (I : Draft) (P : Timetable) → HasInputs (Some files) (improve_inputs c) I P
+improved : (c : ImproveCall) (files : Names) (new : Option Names) (g : Given) → HasGiven (Some files) (improve_inputs c) g
     → (status : Status) (text : List ℕ) → HasNoFault status → ImproveEnds c (Some files) new status text → IsAnswered (improve c) status
-improved c files new I P has status text calm (inl (kept, unread)) = inr (inr (accepted files (improve_inputs c) I P has status text calm unread))
-improved c files new I P has Done text calm (inr h) = inl refl
-improved c files new I P has (ReadFault role) text calm (inr h) = absurd calm
-improved c files new I P has NoneFound text calm (inr h) = inr (inl refl)
-improved c files new I P has (WriteFault role) text calm (inr h) = absurd calm
-improved c files new I P has OutOfMemory text calm (inr h) = inr (inr refl)
-improved c files new I P has status text calm (inr (v, is, h)) = absurd h
+improved c files new g has status text calm (inl (kept, unread)) = inr (inr (accepted files (improve_inputs c) g has status text calm unread))
+improved c files new g has status text calm (inr (v, is, e)) =
+    steps-answered (IsRound WorkerLeaves c.out) IsSearched c.rounds v (Some files) new (IsAnswered (improve c))
+    (λ x o y r. inl (ap (λ (p : OutcomeState). p.status) r.comes)) (λ x o is. searched-answered x o is) (inr (inr refl)) status text calm e
+  where
+    by_best : (b : Bool) (o : OutcomeState) (found : List ℕ) → o ≡ (if b then says Done found else says NoneFound none_found_text)
+        → IsAnswered (improve c) o.status
+    by_best true o found is = inl (ap (λ (p : OutcomeState). p.status) is)
+    by_best false o found is = inr (inl (ap (λ (p : OutcomeState). p.status) is))
 
--- an older solution that is as it ought to be is read
-module _ (v : ViewCall) (files : Names) (I : Draft) (P : Timetable) (has : HasInputs (Some files) (view_inputs v) I P) (older : Option Timetable) (has-older : HasOlder (Some files) v.since I older) where
-  older-given : (J : Draft) (name : List ℕ) (o : Option Timetable) → HasInstance v.instance J files → v.since ≡ Some name → HasOlder (Some files) v.since I o
-      → (O : Timetable) × HasSolution name J O files
-  older-given J name None one named given = absurd (subst (λ s. HasOlder (Some files) s I None) named given)
-  older-given J name (Some O) one named given =
-      let same : Ok I ≡ Ok J = sym has.instance.read ∙ one.read in
-      let here : I ≡ J = cc in
-      (O, subst (λ (X : Draft). HasSolution name X O files) here (subst (λ s. HasOlder (Some files) s I (Some O)) named given))
+    searched-answered : (x : ImproverState) (o : OutcomeState) → IsSearched x o → IsAnswered (improve c) o.status
+    searched-answered x o is =
+        by_best (feasible (bill_of x.instance x.kept)) o (report x.instance.weights (bill_of x.instance x.kept)) is
 
-  by-older : (J : Draft) (name : List ℕ) → HasInstance v.instance J files → v.since ≡ Some name → (status : Status) (text : List ℕ) → HasNoFault status
-      → EndsOlderUnread (Some files) name J status text → status ≡ OutOfMemory
-  by-older J name one named (ReadFault role) text calm h = absurd calm
-  by-older J name one named (TooLong Solution) text calm h =
-      absurd (let short = (older-given J name older one named has-older).1.short in let long = h.1 in omega arith)
-  by-older J name one named (StartRefused e) text calm h =
-      let given = older-given J name older one named has-older in
-      absurd (not-both _ given.0 e given.1.read h.1.read)
-  by-older J name one named OutOfMemory text calm h = refl
-  by-older J name one named status text calm h = absurd h
+view-answers : (v : ViewCall) → AreAnswers (IsViewed v) (IsAnswered (view v))
+view-answers v = record { outcomes = λ g o is. inl (ap (λ (x : OutcomeState). x.status) is.page); memory = inr refl }
 
-  viewed : (new : Option Names) (status : Status) (text : List ℕ) → HasNoFault status → ViewEnds v (Some files) new status text → IsAnswered (view v) status
-  viewed new Done text calm h = inl refl
-  viewed new (WriteFault role) text calm h = absurd calm
-  viewed new OutOfMemory text calm h = inr refl
-  viewed new status text calm (kept, inl unread) = inr (accepted files (view_inputs v) I P has status text calm unread)
-  viewed new status text calm (kept, inr none) = inr (by-older none.instance none.name none.inputs.instance none.named status text calm none.unread)
-
-bounded : (c : BoundCall) (files : Names) (I : Draft) (P : Timetable) → HasInputs (Some files) (bound_inputs c) I P
-    → (status : Status) (text : List ℕ) → HasNoFault status → BoundEnds c (Some files) status text → IsAnswered (bound c) status
-bounded c files I P has Done text calm h = inl refl
-bounded c files I P has Infeasible text calm h = inr (inl refl)
-bounded c files I P has (WriteFault role) text calm h = absurd calm
-bounded c files I P has status text calm h = inr (inr (accepted files (bound_inputs c) I P has status text calm h))
+bound-answers : (b : BoundCall) → AreAnswers (IsBounded b) (IsAnswered (bound b))
+bound-answers b = record { outcomes = λ g o is. by_case _ o.status (ap (λ (x : OutcomeState). x.status) is.said); memory = inr (inr refl) }
+  where
+    by_case : (none : Bool) (status : Status) → status ≡ bound_status none → IsAnswered (bound b) status
+    by_case true status is = inl is
+    by_case false status is = inr (inl is)
 
 -- ---- any command
 
 -- each end of a call that no fault ended, and whose files are accepted, is an answer
 answered : (call : Call) (files : Names) (new : Option Names) → HasFiles call files → (status : Status) (text : List ℕ) → HasNoFault status
     → CallEnds call (Some files) new status text → IsAnswered call status
-answered (improve c) files new (I, P, has) status text calm h = improved c files new I P has status text calm h
-answered (view v) files new (I, P, older, has, given) status text calm h = viewed v files I P has older given new status text calm h
-answered (bound b) files new (I, P, has) status text calm h = bounded b files I P has status text calm h.1
+answered (improve c) files new (g, has) status text calm h = improved c files new g has status text calm h
+answered (view v) files new (g, has) status text calm h =
+    command-answered (IsViewed v) (view_inputs v) files new (IsAnswered (view v)) (view-answers v) g has status text calm h
+answered (bound b) files new (g, has) status text calm h =
+    command-answered (IsBounded b) (bound_inputs b) files new (IsAnswered (bound b)) (bound-answers b) g has status text calm h
 
 memory-answered : (call : Call) → IsAnswered call OutOfMemory
 memory-answered (improve c) = inr (inr refl)

@@ -4,7 +4,7 @@ use Rattle.std.specs.Prelude.{option_and_then, slice_get}
 use Rattle.std.specs.Option.{option_map_or}
 use Rattle.std.proofs.lemmas.Option.{slice_get-map}
 use Rattle.clap.specs.Words.{Text}
-use Rattle.ih_words.proofs.CommandNames.{first_name}
+use Rattle.ih_arguments.proofs.FirstWords.{first_name}
 use Rattle.ih_planning.specs.Explaining.{app_for, app_named, program_app}
 use Rattle.ih_planning.specs.Words.{call_named, call_of}
 

@@ -1,6 +1,6 @@
 -- What a call of improve leaves, once all its rounds are over.
-use Rattle.std.proofs.Common.{◌≡◌, ℕ, ◌≤◌, ap, subst, arith, inl, inr, Bool, true, false, List, [], ◌∷◌, ◌++◌, length, Option}
-use Rattle.std.specs.Bool.{MatchBool}
+use Rattle.std.proofs.Common.{◌≡◌, ◌∙◌, ℕ, ◌+◌, ◌<◌, ◌≤◌, refl, ap, subst, arith, inl, inr, Bool, true, false, List, [], ◌∷◌, ◌++◌, length, Option, None}
+use Rattle.std.specs.Prelude.{if◌then◌else◌}
 use Rattle.ih_tables.specs.Bills.{feasible}
 use Rattle.ih_plan.specs.BillOf.{bill_of}
 use Rattle.ih_shelf.specs.Outside.{IfTold, IsWritten, Names}
@@ -8,61 +8,125 @@ use Rattle.ih_solution.specs.Solution.{solution}
 use Rattle.ih_validate.specs.Report.{report}
 use Rattle.ih_improve.specs.Following.{MayFollow}
 use Rattle.ih_improve.specs.ImproverState.{ImproverState}
-use Rattle.ih_answers.specs.declared.status.Status.TheVariants.{Done}
+use Rattle.ih_improve.specs.Legs.{Leaves}
+use Rattle.ih_answers.specs.declared.status.Status.{Status}
+use Rattle.ih_answers.specs.declared.status.Status.TheVariants.{Done, NoneFound, OutOfMemory, WriteFault}
+use Rattle.ih_answers.specs.Answers.{unsaid}
 use Rattle.ih_answers.specs.Ends.{Unchanged}
-use Rattle.ih_answers.proofs.Files.{told-weaker}
+use Rattle.ih_answers.specs.Texts.{none_found_text}
+use Rattle.ih_answers.proofs.Files.{told-then}
+use Rattle.ih_answers.proofs.Stopping.{unread-only}
+use Rattle.ih_frame.specs.Outcomes.{AreWritten, IsStatusOf, OutcomeState, says}
+use Rattle.ih_frame.specs.Steps.{AreAllWritten, AreSteps, EndsFrom, StepsEnds, told}
 use Rattle.ih_planning.specs.Improve.{ImproveCall, improve_inputs}
 use Rattle.ih_planning.specs.Laws.{DoneCallsHaveImproved, IsImproved, NoneFoundChangesNothing}
-use Rattle.ih_planning.specs.Rounds.{AreRounds, HoldsBest, Round, kept_after, progress}
+use Rattle.ih_planning.specs.Rounds.{IsRound, IsSearched, searched}
 use Rattle.ih_planning.specs.Searching.{IsSearch}
-use Rattle.ih_planning.proofs.Unread.{unread-only}
+use Rattle.ih_planning.proofs.RoundsTaken.{came, holds}
 
--- the file by whether the best is feasible
-by-yes : (b : Bool) (P Q : Type 0) → b ≡ true → MatchBool b P Q → P
-by-yes b P Q is h = subst (λ (t : Bool). MatchBool t P Q) is h
+-- a status that isn't another one, nor what that becomes where its text can't be put out
+module _ (o : OutcomeState) where
+  not-done : o.status ≡ NoneFound → IsStatusOf o Done → ⊥
+  not-done is (inl same) = let clash : Done ≡ NoneFound = same ∙ is in cc
+  not-done is (inr (some, same)) = let clash : Done ≡ NoneFound = same ∙ ap unsaid is in cc
 
-by-no : (b : Bool) (P Q : Type 0) → b ≡ false → MatchBool b P Q → Q
-by-no b P Q is h = subst (λ (t : Bool). MatchBool t P Q) is h
+  not-none : o.status ≡ Done → IsStatusOf o NoneFound → ⊥
+  not-none is (inl same) = let clash : NoneFound ≡ Done = same ∙ is in cc
+  not-none is (inr (some, same)) = let clash : NoneFound ≡ WriteFault None = same ∙ ap unsaid is in cc
 
 module _ (c : ImproveCall) (old new : Option Names) (text : List ℕ) (v : ImproverState) (is : IsSearch old c v) where
-  -- there is at least one round
-  some-round : 1 ≤ v.settings.rounds
-  some-round = is.settings.lawful.some_round
+  abbrev Ends : Status → Type 0
+  Ends status = StepsEnds (IsRound Leaves c.out) IsSearched c.rounds v old new status text
+
+  none-yet : v.rounds ≡ 0
+  none-yet = ap (λ (x : ImproverState). x.rounds) is.from.is_new
 
   freeze-is : v.settings.freeze ≡ c.start.freeze
-  freeze-is = ap (λ s. s.freeze) is.settings.are
+  freeze-is = ap (λ s. s.freeze) is.from.settings.are
 
-  improved : (rs : List Round) → length rs ≡ v.settings.rounds → AreRounds v rs → IfTold (HoldsBest c.out v rs) old new
-      → feasible (bill_of v.instance (kept_after v rs)) ≡ true
-      → text ≡ progress v rs ++ report v.instance.weights (bill_of v.instance (kept_after v rs)) → IsImproved c old new text
-  improved [] all are held works said = absurd (let none : 0 ≡ v.settings.rounds = all in let some = some-round in omega (arith, none, some))
-  improved (r ∷ rs) all are held works said = record {
-    instance = v.instance;
-    given = is.given;
-    inputs = is.inputs;
-    settings = v.settings;
-    are_settings = is.settings;
-    start = v.start;
-    started = is.start;
-    best = r.kept;
-    feasible = works;
-    follows = subst (λ (f : ℕ). MayFollow v.instance v.start f v.start r.kept) freeze-is are.0;
-    written = told-weaker (HoldsBest c.out v (r ∷ rs)) (IsWritten c.out (solution v.instance r.kept)) old new
-        (λ x y h. by-yes (feasible (bill_of v.instance r.kept)) (IsWritten c.out (solution v.instance r.kept) x y) (Unchanged x y) works h) held;
-    told = (progress v (r ∷ rs), said);
-  }
+  -- there is at least one round
+  some-round : 1 ≤ c.rounds
+  some-round = subst (λ (n : ℕ). 1 ≤ n) (ap (λ s. s.rounds) is.from.settings.are) is.from.settings.lawful.some_round
 
-  untouched : (rs : List Round) → IfTold (HoldsBest c.out v rs) old new → feasible (bill_of v.instance (kept_after v rs)) ≡ false
-      → IfTold Unchanged old new
-  untouched [] held lacks = held
-  untouched (r ∷ rs) held lacks =
-      told-weaker (HoldsBest c.out v (r ∷ rs)) Unchanged old new
-      (λ x y h. by-no (feasible (bill_of v.instance r.kept)) (IsWritten c.out (solution v.instance r.kept) x y) (Unchanged x y) lacks h) held
+  -- what the best of the last round may do
+  follows : (rs : List OutcomeState) (w : ImproverState) → 0 < length rs → AreSteps (IsRound Leaves c.out) v rs w
+      → MayFollow v.instance v.start v.settings.freeze v.start w.kept
+  follows [] w some steps = absurd (omega (arith, some))
+  follows (o ∷ rs) w some (u, before, r) =
+      subst (λ (x : ImproverState). MayFollow x.instance x.start x.settings.freeze x.start w.kept) (came Leaves c.out v rs u before) r.follows
+
+  -- ---- done
+
+  module _ (e : Ends Done) (o : OutcomeState) (all : e.left ≡ 0) (comes : o ≡ searched e.taken.now) (written : IfTold (AreWritten o.writes) e.mid new)
+      (status : IsStatusOf o Done) (same : e.rest ≡ o.text) where
+    abbrev w : ImproverState
+    w = e.taken.now
+
+    here : w ≡ (let x : ImproverState = record v { rounds = v.rounds + length e.taken.steps; kept = w.kept } in x)
+    here = came Leaves c.out v e.taken.steps w e.taken.are
+
+    some : 0 < length e.taken.steps
+    some = let count = e.all in let rounds = some-round in omega (arith, all, count, rounds)
+
+    by_best : (b : Bool) → feasible (bill_of w.instance w.kept) ≡ b
+        → o ≡ (if b then says Done (report w.instance.weights (bill_of w.instance w.kept)) else says NoneFound none_found_text) → IsImproved c old new text
+    by_best false lacks is_none = absurd (not-done o (ap (λ (x : OutcomeState). x.status) is_none) status)
+    by_best true works is_found =
+        let rounds : w.rounds ≡ v.rounds + length e.taken.steps = ap (λ (x : ImproverState). x.rounds) here in
+        let inside : w.instance ≡ v.instance = ap (λ (x : ImproverState). x.instance) here in
+        let told_last : IfTold Unchanged e.mid new = subst (λ (x : OutcomeState). IfTold (AreWritten x.writes) e.mid new) is_found written in
+        record {
+          instance = v.instance;
+          given = is.given;
+          inputs = is.inputs;
+          settings = v.settings;
+          are_settings = is.from.settings;
+          start = v.start;
+          started = is.from.start;
+          best = w.kept;
+          feasible = subst (λ I. feasible (bill_of I w.kept) ≡ true) inside works;
+          follows = subst (λ (f : ℕ). MayFollow v.instance v.start f v.start w.kept) freeze-is (follows e.taken.steps w some e.taken.are);
+          written = subst (λ I. IfTold (IsWritten c.out (solution I w.kept)) old new) inside
+              (told-then (AreAllWritten e.taken.steps) Unchanged (IsWritten c.out (solution w.instance w.kept)) old e.mid new
+              (λ x y z h k. let found = (holds Leaves c.out v none-yet e.taken.steps w x y e.taken.are h).found (omega (arith, rounds, some)) works in
+              record { whole = k c.out ∙ found.whole; others = λ n other. k n ∙ found.others n other })
+              e.taken.written told_last);
+          told = (
+            told e.taken.steps,
+            e.said ∙ ap (λ (t : List ℕ). told e.taken.steps ++ t) (same ∙ ap (λ (x : OutcomeState). x.text) is_found)
+                ∙ ap (λ I. told e.taken.steps ++ report I.weights (bill_of I w.kept)) inside,
+          );
+        }
+
+  found : (e : Ends Done) → EndsFrom (IsRound Leaves c.out) IsSearched e.left e.taken.now e.mid new Done e.rest → IsImproved c old new text
+  found e (inl (kept, ran, said)) = absurd (let clash : Done ≡ OutOfMemory = ran in cc)
+  found e (inr (inl (more, apart, step))) = absurd (apart refl)
+  found e (inr (inr (all, (o, comes, inl (written, status, same))))) =
+      by_best e o all comes written status same (feasible (bill_of e.taken.now.instance e.taken.now.kept)) refl comes
+  found e (inr (inr (all, (o, comes, inr stopped)))) = absurd stopped
+
+  -- ---- none found
+
+  unchanged : (e : Ends NoneFound) → EndsFrom (IsRound Leaves c.out) IsSearched e.left e.taken.now e.mid new NoneFound e.rest → IfTold Unchanged old new
+  unchanged e (inl (kept, ran, said)) = absurd (let clash : NoneFound ≡ OutOfMemory = ran in cc)
+  unchanged e (inr (inl (more, apart, (o, w, r, inl (written, status, same))))) =
+      absurd (not-none o (ap (λ (x : OutcomeState). x.status) r.comes) status)
+  unchanged e (inr (inl (more, apart, (o, w, r, inr stopped)))) = absurd stopped
+  unchanged e (inr (inr (all, (o, comes, inr stopped)))) = absurd stopped
+  unchanged e (inr (inr (all, (o, comes, inl (written, status, same))))) = by_best (feasible (bill_of e.taken.now.instance e.taken.now.kept)) refl comes
+    where
+      by_best : (b : Bool) → feasible (bill_of e.taken.now.instance e.taken.now.kept) ≡ b
+          → o ≡ (if b then says Done (report e.taken.now.instance.weights (bill_of e.taken.now.instance e.taken.now.kept)) else says NoneFound none_found_text) → IfTold Unchanged old new
+      by_best true works is_found = absurd (not-none o (ap (λ (x : OutcomeState). x.status) is_found) status)
+      by_best false lacks is_none =
+          told-then (AreAllWritten e.taken.steps) Unchanged Unchanged old e.mid new
+          (λ x y z h k. let before = (holds Leaves c.out v none-yet e.taken.steps e.taken.now x y e.taken.are h).none lacks in λ n. k n ∙ before n)
+          e.taken.written (subst (λ (x : OutcomeState). IfTold (AreWritten x.writes) e.mid new) is_none written)
 
 pub done-improved : DoneCallsHaveImproved
 done-improved c old new text (inl (kept, unread)) = absurd (unread-only old (improve_inputs c) Done text unread)
-done-improved c old new text (inr (v, is, (h, all, works, said))) = improved c old new text v is h.rounds all h.are h.held works said
+done-improved c old new text (inr (v, is, e)) = found c old new text v is e e.ends
 
 pub none-unchanged : NoneFoundChangesNothing
 none-unchanged c old new text (inl (kept, unread)) = kept
-none-unchanged c old new text (inr (v, is, (h, all, lacks, said))) = untouched c old new text v is h.rounds h.held lacks
+none-unchanged c old new text (inr (v, is, e)) = unchanged c old new text v is e e.ends

@@ -1,100 +1,88 @@
 -- Rounds that determined workers make leave the same.
-use Rattle.std.proofs.Common.{◌≡◌, ◌∙◌, ℕ, refl, sym, ap, ap₂, subst, arith, Bool, true, false, List, [], ◌∷◌, ◌++◌, length, map}
+use Rattle.std.proofs.Common.{◌≡◌, ◌∙◌, ℕ, refl, sym, ap, subst, arith, Bool, true, false, List, [], ◌∷◌, length}
 use Rattle.std.specs.Prelude.{◌≢◌}
-use Rattle.std.specs.Bool.{Decides, MatchBool}
+use Rattle.std.specs.Bool.{Decides}
 use Rattle.std.specs.Str.{bytes_eq}
 use Rattle.std.proofs.lemmas.Bool.{false≢true}
 use Rattle.std.proofs.lemmas.Slice.Eq.{bytes_eq-Decides}
-use Rattle.ih_tables.specs.Bills.{feasible}
 use Rattle.ih_plan.specs.Timetable.{Timetable}
-use Rattle.ih_plan.specs.BillOf.{bill_of}
 use Rattle.ih_shelf.specs.Outside.{IsWritten, Names}
-use Rattle.ih_solution.specs.Solution.{solution}
-use Rattle.ih_improve.specs.ImproverState.{ImproverState, Leads}
+use Rattle.ih_improve.specs.ImproverState.{ImproverState, Leads, led_to}
 use Rattle.ih_improve.specs.Laws.{IsDetermined}
 use Rattle.ih_improve.specs.Legs.{LegState}
 use Rattle.ih_improve.proofs.Determined.{all-rounds}
 use Rattle.ih_answers.specs.Ends.{Unchanged}
-use Rattle.ih_planning.specs.Laws.{RoundsLeaveTheSame}
-use Rattle.ih_planning.specs.Rounds.{AreLed, HoldsBest, Round, after_rounds, kept_after, progress, round_line}
+use Rattle.ih_frame.specs.Outcomes.{AreWritten, OutcomeState, WritingState}
+use Rattle.ih_frame.specs.Steps.{AreAllWritten, AreSteps}
+use Rattle.ih_planning.specs.Laws.{DifferInHeats, RoundsLeaveTheSame}
+use Rattle.ih_planning.specs.Rounds.{IsRound, best_writes, is_new, round_line}
 
--- ---- the file
+-- ---- files
 
 -- one name holds the bytes in both
-written-same : (out bytes : List ℕ) (old new other : Names) → IsWritten out bytes old new → IsWritten out bytes old other → Unchanged new other
-written-same out bytes old new other first second n = by_name (bytes_eq n out) (bytes_eq-Decides n out)
+written-same : (out bytes : List ℕ) (a b new other : Names) → Unchanged a b → IsWritten out bytes a new → IsWritten out bytes b other → Unchanged new other
+written-same out bytes a b new other same first second n = by_name (bytes_eq n out) (bytes_eq-Decides n out)
   where
-    by_name : (b : Bool) → Decides b (n ≡ out) → other n ≡ new n
-    by_name true is = let same : n ≡ out = is.0 refl in ap other same ∙ second.whole ∙ sym first.whole ∙ sym (ap new same)
-    by_name false is = let apart : n ≢ out = λ same. false≢true (is.1 same) in second.others n apart ∙ sym (first.others n apart)
+    by_name : (t : Bool) → Decides t (n ≡ out) → other n ≡ new n
+    by_name true is = let here : n ≡ out = is.0 refl in ap other here ∙ second.whole ∙ sym first.whole ∙ sym (ap new here)
+    by_name false is = let apart : n ≢ out = λ here. false≢true (is.1 here) in second.others n apart ∙ same n ∙ sym (first.others n apart)
 
-either-same : (b : Bool) (out bytes : List ℕ) (old new other : Names) → MatchBool b (IsWritten out bytes old new) (Unchanged old new)
-    → MatchBool b (IsWritten out bytes old other) (Unchanged old other) → Unchanged new other
-either-same true out bytes old new other first second = written-same out bytes old new other first second
-either-same false out bytes old new other first second = λ n. second n ∙ sym (first n)
+-- the same is written to both
+writes-same : (ws : List WritingState) (a b new other : Names) → Unchanged a b → AreWritten ws a new → AreWritten ws b other → Unchanged new other
+writes-same [] a b new other same h k = λ n. k n ∙ same n ∙ sym (h n)
+writes-same (w ∷ ws) a b new other same (m, first, rest) (p, second, left) =
+    writes-same ws m p new other (written-same w.name w.bytes a b m p same first second) rest left
 
--- ---- the rounds
+-- all steps write the same
+abbrev SameWrites : List OutcomeState → List OutcomeState → Type 0
+SameWrites [] [] = Unit {0}
+SameWrites (o ∷ os) (p ∷ ps) = (p.writes ≡ o.writes) × SameWrites os ps
+SameWrites os ps = ⊥
 
--- the best of the last round
-abbrev last-of : Timetable → List Timetable → Timetable
-last-of kept [] = kept
-last-of kept (P ∷ Ps) = P
+files-same : (os ps : List OutcomeState) → SameWrites os ps → (old new other : Names) → AreAllWritten os old new → AreAllWritten ps old other
+    → Unchanged new other
+files-same [] [] same old new other h k = λ n. k n ∙ sym (h n)
+files-same [] (p ∷ ps) same old new other h k = absurd same
+files-same (o ∷ os) [] same old new other h k = absurd same
+files-same (o ∷ os) (p ∷ ps) (is, earlier) old new other (m, h, first) (q, k, second) =
+    writes-same o.writes m q new other (files-same os ps earlier old m q h k) first (subst (λ (ws : List WritingState). AreWritten ws q other) is second)
 
-abbrev bests : List Round → List Timetable
-bests rs = map (λ r. r.kept) rs
+-- ---- rounds
 
-abbrev heats : List Round → List ℕ
-heats rs = map (λ r. r.heat) rs
+module _ (may_leave : LegState → ℕ → Timetable → Type 0) (determined : IsDetermined may_leave) (out : List ℕ) where
+  one-round : (u : ImproverState) (P Q : Timetable) → Leads may_leave u P → Leads may_leave u Q → P ≡ Q
+  one-round u P Q first second =
+      let same : P ∷ [] ≡ Q ∷ [] = all-rounds may_leave determined u (P ∷ []) (Q ∷ []) refl (first, tt) (second, tt) in cc
 
-module _ (v : ImproverState) where
-  kept-last : (rs : List Round) → kept_after v rs ≡ last-of v.kept (bests rs)
-  kept-last [] = refl
-  kept-last (r ∷ rs) = refl
-
-  same-after : (rs ss : List Round) → length rs ≡ length ss → bests rs ≡ bests ss → after_rounds v rs ≡ after_rounds v ss
-  same-after rs ss count same =
-      let kept : kept_after v rs ≡ kept_after v ss = kept-last rs ∙ ap (last-of v.kept) same ∙ sym (kept-last ss) in
-      ap (λ (n : ℕ). let x : ImproverState = record v { rounds = n; kept = kept_after v rs } in x) count
-      ∙ ap (λ (P : Timetable). let x : ImproverState = record v { rounds = length ss; kept = P } in x) kept
-
-  same-file : (rs ss : List Round) → length rs ≡ length ss → bests rs ≡ bests ss → (out : List ℕ) (old new other : Names)
-      → HoldsBest out v rs old new → HoldsBest out v ss old other → Unchanged new other
-  same-file [] [] count same out old new other h k = λ n. k n ∙ sym (h n)
-  same-file [] (s ∷ ss) count same out old new other h k = absurd (omega (arith, count))
-  same-file (r ∷ rs) [] count same out old new other h k = absurd (omega (arith, count))
-  same-file (r ∷ rs) (s ∷ ss) count same out old new other h k =
-      let kept : s.kept ≡ r.kept = cc in
-      either-same (feasible (bill_of v.instance r.kept)) out (solution v.instance r.kept) old new other h
-      (subst (λ (P : Timetable). MatchBool (feasible (bill_of v.instance P)) (IsWritten out (solution v.instance P) old other) (Unchanged old other)) kept k)
-
-  same-lines : (rs ss : List Round) → length rs ≡ length ss → bests rs ≡ bests ss → heats rs ≡ heats ss → progress v rs ≡ progress v ss
-  same-lines [] [] count same warm = refl
-  same-lines [] (s ∷ ss) count same warm = absurd (omega (arith, count))
-  same-lines (r ∷ rs) [] count same warm = absurd (omega (arith, count))
-  same-lines (r ∷ rs) (s ∷ ss) count same warm =
-      let earlier : bests rs ≡ bests ss = cc in
-      let before : heats rs ≡ heats ss = cc in
-      let heat : r.heat ≡ s.heat = cc in
-      ap₂ (λ (x y : List ℕ). x ++ y) (same-lines rs ss (omega (arith, count)) earlier before)
-      (ap₂ round_line (same-after (r ∷ rs) (s ∷ ss) count same) heat)
-
-  module _ (may_leave : LegState → ℕ → Timetable → Type 0) (determined : IsDetermined may_leave) where
-    one-round : (x : ImproverState) (P Q : Timetable) → Leads may_leave x P → Leads may_leave x Q → P ≡ Q
-    one-round x P Q first second =
-        let same : P ∷ [] ≡ Q ∷ [] = all-rounds may_leave determined x (P ∷ []) (Q ∷ []) refl (first, tt) (second, tt) in cc
-
-    same-bests : (rs ss : List Round) → length rs ≡ length ss → AreLed may_leave v rs → AreLed may_leave v ss → bests rs ≡ bests ss
-    same-bests [] [] count first second = refl
-    same-bests [] (s ∷ ss) count first second = absurd (omega (arith, count))
-    same-bests (r ∷ rs) [] count first second = absurd (omega (arith, count))
-    same-bests (r ∷ rs) (s ∷ ss) count (led, before) (follows, earlier) =
-        let fewer : length rs ≡ length ss = omega (arith, count) in
-        let same : bests rs ≡ bests ss = same-bests rs ss fewer before earlier in
-        let head : r.kept ≡ s.kept = one-round (after_rounds v ss) r.kept s.kept
-        (subst (λ (x : ImproverState). Leads may_leave x r.kept) (same-after rs ss fewer same) led) follows in
-        ap₂ (λ (P : Timetable) (Ps : List Timetable). P ∷ Ps) head same
+  rounds-alike : (v w x : ImproverState) (rs ss : List OutcomeState) → length rs ≡ length ss → AreSteps (IsRound may_leave out) v rs w
+      → AreSteps (IsRound may_leave out) v ss x → (w ≡ x) × DifferInHeats rs ss × SameWrites rs ss
+  rounds-alike v w x [] [] count first second = (first ∙ sym second, tt, tt)
+  rounds-alike v w x [] (s ∷ ss) count first second = absurd (omega (arith, count))
+  rounds-alike v w x (r ∷ rs) [] count first second = absurd (omega (arith, count))
+  rounds-alike v w x (r ∷ rs) (s ∷ ss) count (u, before, one) (t, earlier, other) =
+      let same = rounds-alike v u t rs ss (omega (arith, count)) before earlier in
+      let again : IsRound may_leave out u s x = subst (λ (y : ImproverState). IsRound may_leave out y s x) (sym same.0) other in
+      let kept : w.kept ≡ x.kept = one-round u w.kept x.kept one.led again.led in
+      let here : w ≡ x = one.next ∙ ap (λ (P : Timetable). led_to u P) kept ∙ sym again.next in (
+        here,
+        (
+          (
+            w,
+            one.heat,
+            again.heat,
+            ap (λ (o : OutcomeState). o.text) one.comes,
+            ap (λ (o : OutcomeState). o.text) again.comes ∙ ap (λ (y : ImproverState). round_line y again.heat) (sym here),
+          ),
+          same.1,
+        ),
+        (
+          ap (λ (o : OutcomeState). o.writes) again.comes ∙ ap (λ (y : ImproverState). best_writes out (is_new u y) y) (sym here)
+              ∙ sym (ap (λ (o : OutcomeState). o.writes) one.comes),
+          same.2,
+        ),
+      )
 
 pub rounds-same : (may_leave : LegState → ℕ → Timetable → Type 0) → RoundsLeaveTheSame may_leave
-rounds-same may_leave determined v rs ss count first second =
-    let same = same-bests v may_leave determined rs ss count first second in
-    (same, same-file v rs ss count same, same-lines v rs ss count same)
+rounds-same may_leave determined out v w x rs ss count first second =
+    let same = rounds-alike may_leave determined out v w x rs ss count first second in
+    (same.0, same.1, files-same rs ss same.2)

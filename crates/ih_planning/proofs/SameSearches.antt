@@ -1,8 +1,8 @@
--- The words and the files of a call determine its search.
-use Rattle.std.proofs.Common.{◌≡◌, ◌∙◌, sym, ap, ap₂, subst, List, ℕ, Option, Some, None, Ok}
+-- The search of a call: what it is, and that the words and the files determine it.
+use Rattle.std.proofs.Common.{◌≡◌, ◌∙◌, refl, sym, ap, ap₂, subst, List, ℕ, Option, Some, None, Ok}
 use Rattle.ih_tables.specs.declared.drafts.Draft.{Draft}
 use Rattle.ih_plan.specs.Timetable.{Timetable}
-use Rattle.ih_parfill.specs.Starts.{started}
+use Rattle.ih_fill.specs.Starts.{started}
 use Rattle.ih_shelf.specs.Outside.{Names}
 use Rattle.ih_inputs.specs.Reading.{HasInstance, HasPlan}
 use Rattle.ih_improve.specs.ImproverState.{ImproverState}
@@ -11,7 +11,14 @@ use Rattle.ih_improve.specs.declared.settings.Settings.{Settings}
 use Rattle.ih_improve.proofs.WeightLemmas.{defaults-same}
 use Rattle.ih_planning.specs.Improve.{ImproveCall}
 use Rattle.ih_planning.specs.Laws.{SearchesAreDetermined}
-use Rattle.ih_planning.specs.Searching.{AreSettingsOf, IsSearch, new_search, settings_with}
+use Rattle.ih_planning.specs.Searching.{AreSettingsOf, IsSearchFrom, new_search, settings_with}
+
+-- a search that was begun from a start of the call
+pub search-from : (I J : Draft) (c : ImproveCall) (P start : Timetable) (s : Settings) (v : ImproverState) → v ≡ new_search J start s → J ≡ I
+    → AreSettingsOf I c s → start ≡ started c.start.fill s.hard I P → IsSearchFrom I P c v
+search-from I J c P start s v is same settings from =
+    subst (λ (x : ImproverState). IsSearchFrom I P c x) (sym (is ∙ ap (λ (X : Draft). new_search X start s) same))
+    (record { settings = settings; start = from; is_new = refl })
 
 instance-same : (name : List ℕ) (files : Names) (I J : Draft) → HasInstance name I files → HasInstance name J files → I ≡ J
 instance-same name files I J one other = let same : Ok I ≡ Ok J = sym one.read ∙ other.read in cc
@@ -29,8 +36,8 @@ searches-same c files v w one other =
     let given : one.given ≡ other.given =
     plan-same files c.start.file w.instance one.given other.given (subst (λ (X : Draft). HasPlan (Some files) c.start.file X one.given) same one.inputs.plan) other.inputs.plan in
     let settings : v.settings ≡ w.settings =
-    settings-same w.instance c v.settings w.settings (subst (λ (X : Draft). AreSettingsOf X c v.settings) same one.settings) other.settings in
+    settings-same w.instance c v.settings w.settings (subst (λ (X : Draft). AreSettingsOf X c v.settings) same one.from.settings) other.from.settings in
     let start : v.start ≡ w.start =
-    one.start ∙ (ap (λ (X : Draft). started c.start.fill v.settings.hard X one.given) same
-    ∙ (ap₂ (λ (s : Settings) (P : Timetable). started c.start.fill s.hard w.instance P) settings given ∙ sym other.start)) in
-    one.is_new ∙ (ap (λ (X : Draft). new_search X v.start v.settings) same ∙ (ap₂ (λ (P : Timetable) (s : Settings). new_search w.instance P s) start settings ∙ sym other.is_new))
+    one.from.start ∙ (ap (λ (X : Draft). started c.start.fill v.settings.hard X one.given) same
+    ∙ (ap₂ (λ (s : Settings) (P : Timetable). started c.start.fill s.hard w.instance P) settings given ∙ sym other.from.start)) in
+    one.from.is_new ∙ (ap (λ (X : Draft). new_search X v.start v.settings) same ∙ (ap₂ (λ (P : Timetable) (s : Settings). new_search w.instance P s) start settings ∙ sym other.from.is_new))

@@ -4,11 +4,11 @@ use Rattle.std.specs.Prelude.{◌↔◌, ◌&&◌, IfSome, IsTrue, if◌then◌e
 use Rattle.std.proofs.lemmas.Bool.{and_parts, le-leb, leb-true}
 use Rattle.clap.specs.Words.{Row, Text}
 use Rattle.ih_tables.specs.declared.drafts.Draft.{Draft}
-use Rattle.ih_journal.specs.declared.settings.TheConstants.{MAX_HARD, MAX_HEAT, MAX_WORKERS}
-use Rattle.ih_words.specs.Distinct.{all_differ}
-use Rattle.ih_words.specs.Matches.{HasNumber, number_at, number_if_given}
-use Rattle.ih_words.specs.Start.{freezes_a_file}
-use Rattle.ih_words.proofs.Getters.{number_if_given-within}
+use Rattle.ih_plan.specs.declared.limits.TheConstants.{MAX_HARD, MAX_HEAT, MAX_WORKERS}
+use Rattle.ih_arguments.specs.Distinct.{all_differ}
+use Rattle.ih_arguments.specs.Matches.{HasNumber, number_at, number_if_given}
+use Rattle.ih_arguments.specs.Start.{freezes_a_file}
+use Rattle.ih_arguments.proofs.Getters.{number_if_given-within}
 use Rattle.ih_improve.specs.Defaults.{AreDefaults}
 use Rattle.ih_improve.specs.Settings.{IsLawful}
 use Rattle.ih_improve.specs.declared.defaults.Defaults.{Defaults}

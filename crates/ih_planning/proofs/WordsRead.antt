@@ -5,8 +5,8 @@ use Rattle.clap.specs.Words.{App, HasKind, IsAmong, Row, Text, fault_of, kind_of
 use Rattle.clap.specs.declared.error.Error.{Error}
 use Rattle.clap.specs.declared.error.kind.ErrorKind.{ErrorKind}
 use Rattle.clap.specs.declared.error.kind.ErrorKind.TheVariants.{DisplayHelp, OutOfMemory as ClapOutOfMemory}
-use Rattle.ih_words.specs.Matches.{call_by, has_no_fault}
-use Rattle.ih_words.proofs.Faults.{fault_at}
+use Rattle.ih_arguments.specs.Matches.{call_by, has_no_fault}
+use Rattle.ih_arguments.proofs.Faults.{fault_at}
 use Rattle.ih_planning.specs.Explaining.{IsExplained, IsExplainedAs, IsNoHelp}
 use Rattle.ih_planning.specs.declared.explaining.NoCall.{NoCall}
 use Rattle.ih_planning.specs.declared.explaining.NoCall.TheVariants.{Help, OutOfMemory, Refused}

@@ -2,10 +2,10 @@
 use Rattle.std.specs.Prelude.{ℕ, List, Option, Some, codes, option_map, unwrap_or}
 use Rattle.clap.specs.Words.{App, Row, Rule, Text, first_of, new_app, new_rule, with_rule}
 use Rattle.clap.specs.declared.builder.action.ArgAction.TheVariants.{Set}
-use Rattle.ih_journal.specs.declared.settings.TheConstants.{MAX_WORKERS}
-use Rattle.ih_words.specs.Arguments.{named, optional_between}
-use Rattle.ih_words.specs.Matches.{HasText, IsNumberIfGiven, number_if_given, text_at}
-use Rattle.ih_inputs.specs.Reading.{InputFiles}
+use Rattle.ih_plan.specs.declared.limits.TheConstants.{MAX_WORKERS}
+use Rattle.ih_arguments.specs.Arguments.{named, optional_between}
+use Rattle.ih_arguments.specs.Matches.{HasText, IsNumberIfGiven, number_if_given, text_at}
+use Rattle.ih_inputs.specs.Reading.{InputFiles, said_files}
 use Rattle.ih_planning.specs.declared.bound_words.Bound.{Bound}
 use Rattle.ih_planning.specs.declared.bound_words.TheConstants.{DEFAULT_BOUND_WORKERS, DEFAULT_BOUND_ROUNDS, MAX_BOUND_ROUNDS}
 
@@ -41,7 +41,7 @@ bound_call b = record {
 
 -- the files that the call reads
 abbrev pub bound_inputs : BoundCall → InputFiles
-bound_inputs c = record { instance = c.instance; solution = c.solution }
+bound_inputs c = said_files c.instance c.solution
 
 -- what the rules of its arguments say of the matches of bound
 pub record HasBound (rows : List Row) : Type 0 where

@@ -1,30 +1,34 @@
 -- How a call of the program ends: what it then has read, written and said, by its status.
 use Rattle.std.specs.Prelude.{◌≡◌, ℕ, ◌+◌, ◌⊎◌, List, Option, Some, None}
 use Rattle.clap.specs.Words.{Text}
-use Rattle.ih_tables.specs.declared.drafts.Draft.{Draft}
-use Rattle.ih_plan.specs.Timetable.{Timetable}
 use Rattle.ih_shelf.specs.Outside.{IfTold, IsOnePutAtMost, Names}
-use Rattle.ih_inputs.specs.Reading.{HasInputs}
+use Rattle.ih_inputs.specs.Reading.{Given, HasGiven, InputFiles}
 use Rattle.ih_answers.specs.declared.status.Status.{Status}
 use Rattle.ih_answers.specs.declared.status.Status.TheVariants.{Done, Infeasible, Usage, NoneFound, WriteFault, OutOfMemory}
 use Rattle.ih_answers.specs.Ends.{Ends, Unchanged}
 use Rattle.ih_answers.specs.Texts.{memory_text}
+use Rattle.ih_frame.specs.Ends.{CommandEnds}
+use Rattle.ih_frame.specs.Steps.{ArePutsAtMost}
 use Rattle.ih_planning.specs.Bound.{bound_inputs}
-use Rattle.ih_planning.specs.Bounding.{BoundEnds}
+use Rattle.ih_planning.specs.Bounding.{IsBounded}
 use Rattle.ih_planning.specs.Explaining.{MayAskForHelp, MayBeRefused, app_for}
 use Rattle.ih_planning.specs.Improve.{improve_inputs}
-use Rattle.ih_planning.specs.Older.{HasOlder}
-use Rattle.ih_planning.specs.Rounds.{ArePutsAtMost}
 use Rattle.ih_planning.specs.Searching.{ImproveEnds}
 use Rattle.ih_planning.specs.View.{view_inputs}
-use Rattle.ih_planning.specs.Viewing.{ViewEnds}
+use Rattle.ih_planning.specs.Viewing.{IsViewed}
 use Rattle.ih_planning.specs.Words.{Call, bound, improve, view}
+
+-- the files that a call reads
+abbrev pub inputs_of : Call → InputFiles
+inputs_of (improve c) = improve_inputs c
+inputs_of (view v) = view_inputs v
+inputs_of (bound b) = bound_inputs b
 
 -- what a call has read and written, and the text that it had to say, by its status
 abbrev pub CallEnds : Call → Option Names → Option Names → Status → List ℕ → Type 0
 CallEnds (improve c) old new status text = ImproveEnds c old new status text
-CallEnds (view v) old new status text = ViewEnds v old new status text
-CallEnds (bound b) old new status text = IfTold Unchanged old new × BoundEnds b old status text
+CallEnds (view v) old new status text = CommandEnds (IsViewed v) (view_inputs v) old new status text
+CallEnds (bound b) old new status text = CommandEnds (IsBounded b) (bound_inputs b) old new status text
 
 -- The words name no call: help is said, where they may ask for that, or why they name none. No clause says these texts.
 abbrev pub NoCallEnds : List Text → Status → List ℕ → Type 0
@@ -61,11 +65,7 @@ IsAnswered (bound b) status = (status ≡ Done) ⊎ (status ≡ Infeasible) ⊎ 
 
 -- the files that a call reads are as they ought to be
 abbrev pub HasFiles : Call → Names → Type 0
-HasFiles (improve c) files = (I : Draft) × (P : Timetable) × HasInputs (Some files) (improve_inputs c) I P
-HasFiles (view v) files =
-    (I : Draft) × (P : Timetable) × (older : Option Timetable) × HasInputs (Some files) (view_inputs v) I P
-    × HasOlder (Some files) v.since I older
-HasFiles (bound b) files = (I : Draft) × (P : Timetable) × HasInputs (Some files) (bound_inputs b) I P
+HasFiles call files = (g : Given) × HasGiven (Some files) (inputs_of call) g
 
 -- where the words are lawful, the files are accepted and no count rose, there are two or three answers
 abbrev pub IsComplete : Option Call → Option Names → Type 0 → Type 0 → Type 0 → Status → Type 0

@@ -6,7 +6,7 @@ use Rattle.clap.specs.Words.{App, IsAmong, Text, fault_of, new_app, with_subcomm
 use Rattle.clap.specs.Simple.{on_top}
 use Rattle.clap.specs.declared.error.kind.ErrorKind.{ErrorKind}
 use Rattle.clap.specs.declared.error.kind.ErrorKind.TheVariants.{DisplayHelp, OutOfMemory as ClapOutOfMemory}
-use Rattle.ih_words.specs.Matches.{has_no_fault}
+use Rattle.ih_arguments.specs.Matches.{has_no_fault}
 use Rattle.ih_planning.specs.Bound.{bound_app}
 use Rattle.ih_planning.specs.Improve.{improve_app}
 use Rattle.ih_planning.specs.View.{view_app}

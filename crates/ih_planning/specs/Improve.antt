@@ -1,13 +1,13 @@
 -- The command `improve`: its description for `clap`, its values and when they are lawful.
 use Rattle.std.specs.Prelude.{ℕ, ◌*◌, ◌≤◌, ◌&&◌, nat_le, Bool, List, ◌∷◌, Option, Some, None, codes, if◌then◌else◌, unwrap_or}
 use Rattle.clap.specs.Words.{App, Row, Text, new_app, with_rule}
-use Rattle.ih_journal.specs.declared.settings.TheConstants.{MAX_HARD, MAX_HEAT, MAX_WORKERS}
-use Rattle.ih_words.specs.Arguments.{any_number_option, named, numbered_option, optional_between, optional_number, seed_option}
-use Rattle.ih_words.specs.Distinct.{all_differ}
-use Rattle.ih_words.specs.Matches.{HasNumber, HasText, IsNumberIfGiven, number_at, number_if_given, text_at}
-use Rattle.ih_words.specs.Start.{StartCall, freezes_a_file, start_call, start_files, start_in, with_start}
-use Rattle.ih_words.specs.declared.start.TheConstants.{MAX_FREEZE}
-use Rattle.ih_inputs.specs.Reading.{InputFiles}
+use Rattle.ih_plan.specs.declared.limits.TheConstants.{MAX_HARD, MAX_HEAT, MAX_WORKERS}
+use Rattle.ih_arguments.specs.Arguments.{any_number_option, named, numbered_option, optional_between, optional_number, seed_option}
+use Rattle.ih_arguments.specs.Distinct.{all_differ}
+use Rattle.ih_arguments.specs.Matches.{HasNumber, HasText, IsNumberIfGiven, number_at, number_if_given, text_at}
+use Rattle.ih_arguments.specs.Start.{StartCall, freezes_a_file, start_call, start_files, start_in, with_start}
+use Rattle.ih_plan.specs.declared.limits.TheConstants.{MAX_FREEZE}
+use Rattle.ih_inputs.specs.Reading.{InputFiles, said_files}
 use Rattle.ih_improve.specs.Settings.{IsLawful}
 use Rattle.ih_improve.specs.declared.settings.Settings.{Settings}
 use Rattle.ih_improve.specs.declared.settings.TheConstants.{MAX_ATTEMPTS, MAX_ROUNDS}
@@ -64,7 +64,7 @@ improve_call i = record {
 
 -- the files that the call reads
 abbrev pub improve_inputs : ImproveCall → InputFiles
-improve_inputs c = record { instance = c.instance; solution = c.start.file }
+improve_inputs c = said_files c.instance c.start.file
 
 -- its settings, with the widest heats and the greatest weight of a broken rule where none are given
 abbrev pub widest_settings : ImproveCall → Settings

@@ -1,10 +1,10 @@
 -- Laws of calls of the program.
-use Rattle.std.specs.Prelude.{◌≡◌, ℕ, true, List, ◌++◌, length, map, Option, Some}
+use Rattle.std.specs.Prelude.{◌≡◌, ℕ, true, List, [], ◌∷◌, ◌++◌, length, Option, Some}
 use Rattle.ih_tables.specs.declared.drafts.Draft.{Draft}
 use Rattle.ih_tables.specs.Bills.{feasible}
 use Rattle.ih_plan.specs.Timetable.{Timetable}
 use Rattle.ih_plan.specs.BillOf.{bill_of}
-use Rattle.ih_parfill.specs.Starts.{started}
+use Rattle.ih_fill.specs.Starts.{started}
 use Rattle.ih_shelf.specs.Outside.{IfTold, IsWritten, Names}
 use Rattle.ih_solution.specs.Solution.{solution}
 use Rattle.ih_validate.specs.Report.{report}
@@ -12,12 +12,14 @@ use Rattle.ih_inputs.specs.Reading.{HasInputs}
 use Rattle.ih_improve.specs.Following.{MayFollow}
 use Rattle.ih_improve.specs.ImproverState.{ImproverState}
 use Rattle.ih_improve.specs.Laws.{IsDetermined}
-use Rattle.ih_improve.specs.Legs.{LegState}
+use Rattle.ih_improve.specs.Legs.{Leaves, LegState}
 use Rattle.ih_improve.specs.declared.settings.Settings.{Settings}
 use Rattle.ih_answers.specs.declared.status.Status.TheVariants.{Done, NoneFound}
 use Rattle.ih_answers.specs.Ends.{Unchanged}
+use Rattle.ih_frame.specs.Outcomes.{OutcomeState}
+use Rattle.ih_frame.specs.Steps.{AreAllWritten, AreSteps}
 use Rattle.ih_planning.specs.Improve.{ImproveCall, improve_inputs}
-use Rattle.ih_planning.specs.Rounds.{AreLed, HoldsBest, Round, progress}
+use Rattle.ih_planning.specs.Rounds.{HoldsBest, IsRound, round_line}
 use Rattle.ih_planning.specs.Searching.{AreSettingsOf, ImproveEnds, IsSearch}
 
 -- OUT has the solution of a feasible timetable that keeps the start's choices before the freeze day and, where the
@@ -48,16 +50,29 @@ NoneFoundChangesNothing =
     (c : ImproveCall) (old new : Option Names) (text : List ℕ) → ImproveEnds c old new NoneFound text
     → IfTold Unchanged old new
 
--- As many rounds of one search, each led by determined workers, have the same bests and leave the same in each file;
--- and what is told of them differs at most in the heats.
+-- rounds that are over leave the best of them, however many they are
+abbrev pub RoundsLeaveTheirBest : Type 0
+RoundsLeaveTheirBest =
+    (out : List ℕ) (v w : ImproverState) (rs : List OutcomeState) (old new : Names) → v.rounds ≡ 0
+    → AreSteps (IsRound Leaves out) v rs w → AreAllWritten rs old new
+    → HoldsBest out w old new
+
+-- what is told of as many rounds is the same but for the heats
+abbrev pub DifferInHeats : List OutcomeState → List OutcomeState → Type 0
+DifferInHeats [] [] = Unit {0}
+DifferInHeats (o ∷ os) (p ∷ ps) =
+    ((v : ImproverState) × (h : ℕ) × (k : ℕ) × (o.text ≡ round_line v h) × (p.text ≡ round_line v k))
+    × DifferInHeats os ps
+DifferInHeats os ps = ⊥
+
+-- As many rounds of one search, each led by determined workers, lead to the same and leave the same in each file; and
+-- what is told of them differs at most in the heats.
 abbrev pub RoundsLeaveTheSame : (may_leave : LegState → ℕ → Timetable → Type 0) → Type 0
 RoundsLeaveTheSame may_leave =
-    IsDetermined may_leave → (v : ImproverState) (rs ss : List Round) → length rs ≡ length ss → AreLed may_leave v rs
-    → AreLed may_leave v ss
-    → (map (λ r. r.kept) rs ≡ map (λ r. r.kept) ss)
-    × ((out : List ℕ) (old new other : Names) → HoldsBest out v rs old new → HoldsBest out v ss old other
-    → Unchanged new other)
-    × (map (λ r. r.heat) rs ≡ map (λ r. r.heat) ss → progress v rs ≡ progress v ss)
+    IsDetermined may_leave → (out : List ℕ) (v w x : ImproverState) (rs ss : List OutcomeState) → length rs ≡ length ss
+    → AreSteps (IsRound may_leave out) v rs w → AreSteps (IsRound may_leave out) v ss x
+    → (w ≡ x) × DifferInHeats rs ss
+    × ((old new other : Names) → AreAllWritten rs old new → AreAllWritten ss old other → Unchanged new other)
 
 -- the words and the files determine the search of a call: its instance, its start and its settings
 abbrev pub SearchesAreDetermined : Type 0

@@ -5,10 +5,8 @@ pub mod Ends
 pub mod Explaining
 pub mod Improve
 pub mod Laws
-pub mod Older
 pub mod Rounds
 pub mod Searching
-pub mod Unread
 pub mod View
 pub mod Viewing
 pub mod Words

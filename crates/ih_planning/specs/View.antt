@@ -1,12 +1,13 @@
 -- The command `view`: its description for `clap` and its values.
-use Rattle.std.specs.Prelude.{◌&&◌, Bool, true, List, ◌∷◌, Option, Some, None, codes, if◌then◌else◌, is_some, option_and_then, option_map, option_to_list}
+use Rattle.std.specs.Prelude.{◌==◌, ◌&&◌, Bool, true, List, ◌∷◌, length, Option, Some, None, codes, if◌then◌else◌, is_some, option_and_then, option_map, option_to_list}
 use Rattle.std.specs.Option.{option_map_or}
+use Rattle.std.specs.Result.{result_ok}
 use Rattle.clap.specs.Words.{App, Row, Text, first_of, with_rule}
-use Rattle.ih_dates.specs.Words.{date_in}
-use Rattle.ih_dates.specs.declared.dates.Date.{Date}
-use Rattle.ih_words.specs.Arguments.{files_app, named, optional}
-use Rattle.ih_words.specs.Distinct.{all_differ}
-use Rattle.ih_words.specs.Matches.{HasNames, text_at}
+use Rattle.jiff.specs.Words.{date_parts, parse_date}
+use Rattle.jiff_fmt.specs.Temporal.{DateParts}
+use Rattle.ih_arguments.specs.Arguments.{files_app, named, optional}
+use Rattle.ih_arguments.specs.Distinct.{all_differ}
+use Rattle.ih_arguments.specs.Matches.{HasNames, text_at}
 use Rattle.ih_inputs.specs.Reading.{InputFiles}
 use Rattle.ih_planning.specs.declared.view_words.View.{View}
 
@@ -23,7 +24,7 @@ pub record ViewCall : Type 0 where
   pub solution : Text
   pub page : Text
   -- the date of the first day
-  pub from : Option Date
+  pub from : Option DateParts
   -- the file of an older solution
   pub since : Option Text
 
@@ -33,17 +34,28 @@ view_call v = record {
   instance = v.instance.now;
   solution = v.solution.now;
   page = v.page.now;
-  from = v.from;
+  from = option_map date_parts v.from;
   since = option_map (λ t. t.now) v.since;
 }
 
 -- the files that the call reads
 abbrev pub view_inputs : ViewCall → InputFiles
-view_inputs v = record { instance = v.instance; solution = Some v.solution }
+view_inputs v = record {
+  instance = v.instance;
+  solution = Some v.solution;
+  older = v.since;
+  journal = None;
+  are_said = true;
+}
 
 -- each of its file names is there
 abbrev pub HasViewNames : List Row → Type 0
 HasViewNames rows = HasNames rows (codes "INSTANCE") (codes "SOLUTION") (codes "PAGE")
+
+-- the day that a word names, if it names one: of the ways to write a date that the calendar's reader takes, only
+-- 2026-01-05 has ten bytes
+abbrev pub date_in : Text → Option DateParts
+date_in word = if length word == 10 then result_ok (parse_date word) else None
 
 -- the call of view, by `clap`'s matches
 abbrev pub view_in : List Row → ViewCall

@@ -1,9 +1,8 @@
 -- Which call the words of a command line name. The words are those after the program's name.
-use Rattle.std.specs.Prelude.{List, Option, None, IfSome, codes, if◌then◌else◌, option_and_then, option_map, slice_get}
+use Rattle.std.specs.Prelude.{List, Option, None, codes, if◌then◌else◌, option_and_then, option_map, slice_get}
 use Rattle.std.specs.Str.{bytes_eq}
 use Rattle.clap.specs.Words.{Text}
-use Rattle.ih_dates.specs.Calendar.{IsDate}
-use Rattle.ih_words.specs.Matches.{call_by}
+use Rattle.ih_arguments.specs.Matches.{call_by}
 use Rattle.ih_improve.specs.Settings.{IsLawful}
 use Rattle.ih_planning.specs.Bound.{BoundCall, bound_app, bound_call, lawful_bound}
 use Rattle.ih_planning.specs.Improve.{ImproveCall, improve_app, improve_call, lawful_improve, widest_settings}
@@ -23,10 +22,9 @@ command_call (ImproveCommand i) = improve (improve_call i)
 command_call (ViewCommand v) = view (view_call v)
 command_call (BoundCommand b) = bound (bound_call b)
 
--- the settings of a search, where the command has them, are within their limits, and a date is one
+-- the settings of a search, where the command has them, are within their limits
 abbrev pub HasLawfulSettings : Command → Type 0
 HasLawfulSettings (ImproveCommand i) = IsLawful (widest_settings (improve_call i))
-HasLawfulSettings (ViewCommand v) = IfSome v.from IsDate
 HasLawfulSettings command = Unit {0}
 
 -- the call of the command with this name

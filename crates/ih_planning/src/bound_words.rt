@@ -2,16 +2,16 @@
 
 ghost use Rattle.std.specs.Prelude.{◌≡◌, IfOk, false, map, string_bytes};
 ghost use Rattle.clap.specs.Words.{app_of, found_of, rows_of, rule_of};
-ghost use Rattle.ih_words.specs.Matches.{call_by};
+ghost use Rattle.ih_arguments.specs.Matches.{call_by};
 ghost use Rattle.ih_planning.specs.Bound.{HasBound, bound_app, bound_call, bound_in, lawful_bound, optional_name};
 ghost use Rattle.ih_planning.specs.Explaining.{IsRead};
 
 use crate::arguments::with_help;
 use crate::explaining::{NoCall, explained};
 use clap::{Arg, ArgAction, ArgMatches, Command};
-use ih_journal::MAX_WORKERS;
-use ih_words::arguments::{named, optional_between, with};
-use ih_words::matches::{matched, number_if_given, optional_text_of, text_of};
+use ih_arguments::arguments::{named, optional_between, with};
+use ih_arguments::matches::{matched, number_if_given, optional_text_of, text_of};
+use ih_plan::MAX_WORKERS;
 use std::alloc::{AllocError, Global};
 
 /// How often prices are tried at most where no number is given.

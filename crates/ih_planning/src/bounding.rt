@@ -1,23 +1,20 @@
-//! The command `bound`.
+//! The command `bound`: what it comes to.
 
-ghost use Rattle.std.specs.Prelude.{◌≡◌, ℕ, Option};
+ghost use Rattle.std.specs.Prelude.{◌≡◌};
 ghost use Rattle.ih_plan.specs.Timetable.{IsPlanOf};
-ghost use Rattle.ih_shelf.specs.Outside.{Names};
-ghost use Rattle.ih_inputs.specs.Reading.{HasInputs};
-ghost use Rattle.ih_answers.specs.Answers.{Answers, HasFileCause, HasShelfCause, IsSaid};
-ghost use Rattle.ih_planning.specs.{Bound.bound_call, Bound.bound_inputs, BoundTexts.bound_text};
-ghost use Rattle.ih_planning.specs.Bounding.{BoundEnds, bound_status, no_infeasibility, judged, judged_of};
+ghost use Rattle.ih_frame.specs.Outcomes.{IsOwnStatus};
+ghost use Rattle.ih_planning.specs.{Bound.bound_call, Bound.bound_inputs};
+ghost use Rattle.ih_planning.specs.Bounding.{IsBounded, bound_status, no_infeasibility, judged, judged_of};
 
 use crate::bound_texts::{Judged, bound_text};
 use crate::bound_words::Bound;
-use crate::reading::read_or_answer;
-use ih_answers::{Answer, Status, out_of_memory};
-use ih_bound::{Outcome, bound};
-use ih_inputs::Inputs;
-use ih_shelf::Shelf;
+use ih_answers::Status;
+use ih_bound::bound;
+use ih_frame::{Command, Outcome};
+use ih_inputs::{InputNames, Inputs};
 use ih_validate::bill;
-use std::alloc::Global;
-use std::rt::Files;
+use std::alloc::{AllocError, Global};
+use std::sync::Wait;
 use std::thread::Threads;
 
 // The timetable's cost, and whether it breaks no hard rule.
@@ -44,64 +41,57 @@ fn judged_of(call: &Bound<'_>, inputs: &Inputs) -> Option<Judged>
 }
 
 // Whether there may be a feasible timetable, and the one that was judged, if any, breaks no hard rule.
-fn no_infeasibility(judged: &Option<Judged>, outcome: &Outcome) -> bool
+fn no_infeasibility(judged: &Option<Judged>, outcome: &ih_bound::Outcome) -> bool
     ensures { result ≡ no_infeasibility judged.now outcome.now }
 {
     match outcome {
-        Outcome::Infeasible => false,
-        Outcome::AtLeast(_) => match judged {
+        ih_bound::Outcome::Infeasible => false,
+        ih_bound::Outcome::AtLeast(_) => match judged {
             None => true,
             Some(judged) => judged.feasible,
         },
     }
 }
 
-// Says what was found.
-fn said(alloc: Global, judged: &Option<Judged>, outcome: &Outcome) -> Answer
-    ensures { IsSaid (bound_status (no_infeasibility judged.now outcome.now))
-        (bound_text judged.now outcome.now) result }
+// The status by whether nothing infeasible was found.
+fn bound_status(none: bool) -> Status
+    ensures value { result ≡ bound_status none }
+    ensures own { IsOwnStatus result }
 {
-    match bound_text(alloc, outcome, judged) {
-        Ok(text) => Answer {
-            status: if no_infeasibility(judged, outcome) {
-                Status::Done
-            } else {
-                Status::Infeasible
-            },
-            text,
-        },
-        Err(_) => out_of_memory(alloc),
+    if none {
+        Status::Done
+    } else {
+        Status::Infeasible
     }
 }
 
-// Looks for the bound, and says it.
-fn bounded<R: Threads + Sync>(rt: &R, alloc: Global, call: &Bound<'_>, inputs: &Inputs) -> Answer
-    requires { IsPlanOf inputs.now.inst.value.draft inputs.now.plan }
-    ensures ends { (files : Option Names) → HasInputs files (bound_inputs (bound_call call.now))
-        inputs.now.inst.value.draft inputs.now.plan → Answers (BoundEnds (bound_call call.now) files) result }
-    ensures cause { (reads now_reads writes now_writes : ℕ)
-        → HasFileCause reads now_reads writes now_writes result.status }
-{
-    let inst = &*inputs.inst;
-    match bound(rt, alloc, inst, call.rounds, call.workers) {
-        Ok(outcome) => said(alloc, &judged_of(call, inputs), &outcome),
-        Err(_) => out_of_memory(alloc),
-    }
-}
+impl<'b> Command for Bound<'b> {
+    ghost files = { λ b. bound_inputs (bound_call b) };
 
-/// Reads an instance, and a solution where one is named, and says what no feasible timetable costs less than.
-pub fn bound_of<R: Files + Threads + Sync, S: Shelf>(
-    rt: &R,
-    alloc: Global,
-    call: &Bound<'_>,
-    shelf: &mut S,
-) -> Answer
-    ensures ends { Answers (BoundEnds (bound_call call.now) (S.names shelf.old)) result }
-    ensures cause { HasShelfCause S.Shelf shelf.old shelf.new result.status }
-    ensures kept { S.names shelf.new ≡ S.names shelf.old }
-{
-    match read_or_answer(rt, alloc, call.instance, call.solution, shelf) {
-        Ok(inputs) => bounded(rt, alloc, call, &inputs),
-        Err(answer) => answer,
+    ghost is_lawful = { λ b. Unit {0} };
+
+    ghost comes_to = { λ b. IsBounded (bound_call b) };
+
+    fn names(&self) -> InputNames<'_> {
+        InputNames {
+            instance: self.instance,
+            solution: self.solution,
+            older: None,
+            journal: None,
+            are_said: true,
+        }
+    }
+
+    fn outcome<'a, R: Threads + Wait + Sync>(
+        &'a self,
+        rt: &R,
+        alloc: Global,
+        inputs: Inputs,
+    ) -> Result<Outcome<'a>, AllocError> {
+        let judged = judged_of(self, &inputs);
+        let found = bound(rt, alloc, &*inputs.inst, self.rounds, self.workers)?;
+        let text = bound_text(alloc, &found, &judged)?;
+        let status = bound_status(no_infeasibility(&judged, &found));
+        Ok(Outcome::said(alloc, status, text))
     }
 }

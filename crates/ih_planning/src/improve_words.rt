@@ -2,8 +2,8 @@
 
 ghost use Rattle.std.specs.Prelude.{◌≡◌, ◌&&◌, not, true, IfOk, is_some, map, string_bytes};
 ghost use Rattle.clap.specs.Words.{app_of, found_of, rows_of};
-ghost use Rattle.ih_words.specs.{Arguments.IsChanged, Distinct.all_differ, Matches.call_by};
-ghost use Rattle.ih_words.specs.Start.{freezes_a_file, with_start};
+ghost use Rattle.ih_arguments.specs.{Arguments.IsChanged, Distinct.all_differ, Matches.call_by};
+ghost use Rattle.ih_arguments.specs.Start.{freezes_a_file, with_start};
 ghost use Rattle.ih_improve.specs.Settings.{IsLawful};
 ghost use Rattle.ih_planning.specs.Improve.{AreOptionsWithin, HasImprove, are_settings_lawful, improve_app};
 ghost use Rattle.ih_planning.specs.Improve.{improve_call, improve_files, improve_in, lawful_improve, required_app};
@@ -13,16 +13,15 @@ ghost use Rattle.ih_planning.specs.Explaining.{IsRead};
 use crate::arguments::with_help;
 use crate::explaining::{NoCall, explained, refused};
 use clap::{ArgMatches, Command};
-use ih_improve::{MAX_ROUNDS, Settings};
-use ih_journal::{MAX_HARD, MAX_HEAT, MAX_WORKERS};
-use ih_words::arguments::{
+use ih_arguments::arguments::{
     any_number_option, flag, named, numbered_option, optional, optional_between, optional_number,
     seed_option, with,
 };
-use ih_words::file_names::all_differ;
-use ih_words::matches::{matched, number_if_given, text_of, u32_of, u64_of};
-use ih_words::start::{freezes_a_file, start_in};
-use ih_words::{MAX_FREEZE, Start};
+use ih_arguments::file_names::all_differ;
+use ih_arguments::matches::{matched, number_if_given, text_of, u32_of, u64_of};
+use ih_arguments::start::{Start, freezes_a_file, start_in};
+use ih_improve::{MAX_ROUNDS, Settings};
+use ih_plan::{MAX_FREEZE, MAX_HARD, MAX_HEAT, MAX_WORKERS};
 use std::alloc::{AllocError, Global};
 
 /// How many rounds there are where no number is given.

@@ -1,7 +1,7 @@
 //! Laws of calls, each on a function that does nothing.
 
-ghost use Rattle.ih_planning.specs.Laws.{DoneCallsHaveImproved, NoneFoundChangesNothing, RoundsLeaveTheSame};
-ghost use Rattle.ih_planning.specs.Laws.{SearchesAreDetermined};
+ghost use Rattle.ih_planning.specs.Laws.{DoneCallsHaveImproved, NoneFoundChangesNothing, RoundsLeaveTheirBest};
+ghost use Rattle.ih_planning.specs.Laws.{RoundsLeaveTheSame, SearchesAreDetermined};
 
 use ih_improve::Walks;
 
@@ -10,6 +10,11 @@ use ih_improve::Walks;
 pub fn done_calls_have_improved()
     ensures done { DoneCallsHaveImproved }
     ensures none { NoneFoundChangesNothing }
+{}
+
+/// However many rounds of a search are over, OUT has the solution of the best of them, once that is feasible.
+pub fn rounds_leave_their_best()
+    ensures { RoundsLeaveTheirBest }
 {}
 
 /// Where what each worker leaves in a round follows from what the round begins with and from the worker's number, so

@@ -10,14 +10,15 @@ mod explaining;
 mod improve_words;
 mod improving;
 mod laws;
-mod older;
-mod reading;
+mod limits;
 mod rounds;
 mod running;
 mod view_words;
 mod viewing;
 
 pub use laws::{
-    determined_workers_leave_the_same, done_calls_have_improved, searches_are_determined,
+    determined_workers_leave_the_same, done_calls_have_improved, rounds_leave_their_best,
+    searches_are_determined,
 };
+pub use limits::limits_are_these;
 pub use running::run_planner;

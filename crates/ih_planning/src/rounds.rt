@@ -1,27 +1,33 @@
-//! A round of a search: what it found is written, where that is better, and its line is put out.
+//! A search in rounds: what each round comes to, and what the search comes to at last.
 
-ghost use Rattle.std.specs.Bool.{MatchBool};
-ghost use Rattle.std.specs.Prelude.{◌≡◌, ◌<◌, ◌≤◌, ◌⊎◌, false, IfErr, IfNone, IfOk, IfSome, OnOk, string_bytes};
-ghost use Rattle.ih_plan.specs.Timetable.{IsPlanOf};
-ghost use Rattle.ih_shelf.specs.Outside.{IfTold, IsAppended, IsOnePutAtMost, IsWritten, Rose};
-ghost use Rattle.ih_solution.specs.Solution.{solution};
-ghost use Rattle.ih_answers.specs.{Answers.Answers, Answers.HasShelfCause, Ends.Ends, Ends.HasCause, Ends.Received};
-ghost use Rattle.ih_answers.specs.{Texts.ReceivedPart};
-ghost use Rattle.ih_improve.specs.{Following.IsNoDearer, ImproverState.IsSound, ImproverState.Leads, ImproverState.led_to};
-ghost use Rattle.ih_improve.specs.Legs.{Leaves};
-ghost use Rattle.ih_planning.specs.{Rounds.WritesBest, Rounds.best_text, Rounds.round_line, Searching.BestEnds};
-ghost use Rattle.ih_planning.specs.Searching.{GoesOn, LineEnds, RoundEnds, WriteEnds};
+ghost use Rattle.std.specs.Prelude.{◌≡◌, ◌<◌, ◌-◌, ℕ, List, false, IfOk, map, string_bytes};
+ghost use Rattle.ih_answers.specs.declared.status.Status.TheVariants.{Done};
+ghost use Rattle.ih_frame.specs.Outcomes.{IsOwnStatus, outcome_of, writing_of};
+ghost use Rattle.ih_improve.specs.{Following.IsNoDearer, ImproverState.ImproverState, ImproverState.IsSound};
+ghost use Rattle.ih_improve.specs.{ImproverState.Leads, ImproverState.led_to, Legs.Leaves};
+ghost use Rattle.ih_planning.specs.Rounds.{IsRound, IsSearched, best_text, best_writes, is_new, round_line, searched};
 
-use ih_answers::{Answer, Role, Status, conclude, conclude_memory, out_of_memory, unwritten};
+use ih_answers::{Role, Status};
+use ih_frame::{Outcome, Steps, Writing};
 use ih_improve::Improver;
-use ih_plan::Plan;
-use ih_shelf::{Shelf, Sink, WriteError};
 use ih_solution::write_solution;
 use ih_tables::Instance;
+use ih_validate::{bill, report};
 use itoa::Buffer;
 use std::alloc::{AllocError, Global};
-use std::rt::Files;
+use std::sync::Wait;
 use std::thread::Threads;
+
+/// A search, and where its best goes.
+#[derive(Drop)]
+pub struct Search<'i, 'o> {
+    pub inst: &'i Instance,
+    /// The name of the file that the best is written to.
+    pub out: &'o str,
+    /// How many rounds there are.
+    pub rounds: u32,
+    pub improver: Improver<'i>,
+}
 
 // The cost of the best timetable so far, or that there is none yet.
 fn best_text(alloc: Global, improver: &Improver<'_>) -> Result<String, AllocError>
@@ -60,69 +66,13 @@ fn round_line(
     format!(in alloc; "round {number} of {rounds}: {attempts} attempts, {best}, heat {heat}\n")
 }
 
-// Writes the solution of a timetable.
-fn write_plan<R: Files, S: Shelf>(
-    rt: &R,
-    alloc: Global,
-    inst: &Instance,
-    plan: &Plan,
-    name: &str,
-    shelf: &mut S,
-) -> Result<(), Answer>
-    requires { IsPlanOf inst.now.draft plan.now }
-    ensures ok { OnOk result
-        (IfTold (IsWritten name.now (solution inst.now.draft plan.now)) (S.names shelf.old) (S.names shelf.new)) }
-    ensures ends { IfErr result (Answers
-        (WriteEnds name.now (solution inst.now.draft plan.now) (S.names shelf.old) (S.names shelf.new))) }
-    ensures cause { IfErr result (λ a. HasShelfCause S.Shelf shelf.old shelf.new a.status) }
-    ensures count { S.write_faults shelf.old ≤ S.write_faults shelf.new }
-    ensures other_count { S.read_faults shelf.new ≡ S.read_faults shelf.old }
-{
-    match write_solution(alloc, inst, plan) {
-        Ok(solution) => match shelf.write(rt, name, solution.as_slice()) {
-            Ok(()) => Ok(()),
-            Err(error) => Err(unwritten(alloc, Role::Out, name, error)),
-        },
-        Err(_) => Err(out_of_memory(alloc)),
-    }
-}
-
-// Writes the solution of the best timetable so far, where it is feasible and isn't written yet.
-fn write_best<R: Files, S: Shelf>(
-    rt: &R,
-    alloc: Global,
-    inst: &Instance,
-    name: &str,
-    is_new: bool,
-    improver: &Improver<'_>,
-    shelf: &mut S,
-) -> Result<(), Answer>
-    requires { improver.now.instance ≡ inst.now.draft }
-    ensures sound { IsSound improver.now }
-    ensures ok { OnOk result (MatchBool is_new
-        (IfTold (WritesBest name.now improver.now) (S.names shelf.old) (S.names shelf.new)) (shelf.new ≡ shelf.old)) }
-    ensures ends { IfErr result (Answers (BestEnds name.now improver.now (S.names shelf.old) (S.names shelf.new))) }
-    ensures cause { IfErr result (λ a. HasShelfCause S.Shelf shelf.old shelf.new a.status) }
-    ensures count { S.write_faults shelf.old ≤ S.write_faults shelf.new }
-    ensures other_count { S.read_faults shelf.new ≡ S.read_faults shelf.old }
-{
-    let Some((plan, _)) = improver.best() else {
-        return Ok(());
-    };
-    if is_new {
-        write_plan(rt, alloc, inst, plan, name, shelf)
-    } else {
-        Ok(())
-    }
-}
-
 // One round. Answers whether its best is yet to be written: it is the first one, or found better.
 fn search_on<R: Threads + Sync>(rt: &R, improver: &mut Improver<'_>) -> bool
     requires { improver.old.rounds < improver.old.settings.rounds }
     ensures search { improver.new ≡ led_to improver.old improver.new.kept }
     ensures best { Leads Leaves improver.old improver.new.kept }
     ensures no_dearer { IsNoDearer improver.old.instance improver.old.kept improver.new.kept }
-    ensures later { result ≡ false → 0 < improver.old.rounds }
+    ensures new { result ≡ is_new improver.old improver.new }
     ensures same { result ≡ false → improver.new.kept ≡ improver.old.kept }
 {
     let is_first = improver.rounds_made() == 0;
@@ -130,76 +80,84 @@ fn search_on<R: Threads + Sync>(rt: &R, improver: &mut Improver<'_>) -> bool
     is_first || is_better
 }
 
-// Puts out the line of the round that is over. Where that can't be done, the call ends.
-#[tactic(auto, using(ih_answers::proofs::Puts::one_put))]
-fn put_line<R: Print, O: Sink>(
-    rt: &R,
-    alloc: Global,
-    improver: &Improver<'_>,
-    rounds: u32,
-    heat: u32,
-    out: &mut O,
-) -> Option<Status>
-    requires { rounds ≡ improver.now.settings.rounds }
-    ensures goes { IfNone result
-        (IfTold (IsAppended (round_line improver.now heat)) (O.text out.old) (O.text out.new)) }
-    ensures ends { IfSome result (λ status. Ends (LineEnds improver.now heat) (λ s. s ≡ Status.OutOfMemory)
-        (Received status (O.text out.old) (O.text out.new) (O.faults out.old) (O.faults out.new))
-        (ReceivedPart (O.text out.old) (O.text out.new) (O.lacks out.old) (O.lacks out.new)) status) }
-    ensures once { IfTold IsOnePutAtMost (O.puts out.old) (O.puts out.new) }
-    ensures cause { IfSome result (λ status. (status ≡ Status.OutOfMemory)
-        ⊎ ((status ≡ Status.WriteFault None) × Rose (O.faults out.old) (O.faults out.new))) }
-    ensures count { IfNone result (O.faults out.old ≤ O.faults out.new) }
-    ensures lack_count { IfNone result (O.lacks out.old ≤ O.lacks out.new) }
-{
-    let Ok(line) = round_line(alloc, improver, rounds, heat) else {
-        return Some(conclude_memory(rt, out));
-    };
-    match out.put(rt, line.as_bytes()) {
-        Ok(()) => None,
-        Err(WriteError::Fault) => Some(Status::WriteFault(None)),
-        Err(WriteError::OutOfMemory) => Some(Status::OutOfMemory),
-    }
-}
-
-/// One round, its best timetable and its line. Where these can't be written or said, the call ends, with the status
-/// that is answered.
-pub fn one_round<R: Files + Print + Threads + Sync, S: Shelf, O: Sink>(
-    rt: &R,
+// The write of the best timetable so far, where it is feasible and isn't written yet.
+fn best_writes<'a>(
     alloc: Global,
     inst: &Instance,
-    name: &str,
-    rounds: u32,
-    improver: &mut Improver<'_>,
-    shelf: &mut S,
-    out: &mut O,
-) -> Option<Status>
-    requires instance { improver.old.instance ≡ inst.now.draft }
-    requires rounds { rounds ≡ improver.old.settings.rounds }
-    requires next { improver.old.rounds < improver.old.settings.rounds }
-    ensures search { improver.new ≡ led_to improver.old improver.new.kept }
-    ensures best { Leads Leaves improver.old improver.new.kept }
-    ensures no_dearer { IsNoDearer improver.old.instance improver.old.kept improver.new.kept }
-    ensures sound { IsSound improver.new }
-    ensures goes { IfNone result (GoesOn name.now improver.old improver.new (S.names shelf.old) (S.names shelf.new)
-        (O.text out.old) (O.text out.new)) }
-    ensures ends { IfSome result (λ status. Ends
-        (RoundEnds name.now improver.old improver.new (S.names shelf.old) (S.names shelf.new))
-        (HasShelfCause S.Shelf shelf.old shelf.new)
-        (Received status (O.text out.old) (O.text out.new) (O.faults out.old) (O.faults out.new))
-        (ReceivedPart (O.text out.old) (O.text out.new) (O.lacks out.old) (O.lacks out.new)) status) }
-    ensures once { IfTold IsOnePutAtMost (O.puts out.old) (O.puts out.new) }
-    ensures cause { IfSome result (HasCause (S.read_faults shelf.old) (S.read_faults shelf.new)
-        (S.write_faults shelf.old) (S.write_faults shelf.new) (O.faults out.old) (O.faults out.new)) }
-    ensures read_faults { IfNone result (S.read_faults shelf.old ≤ S.read_faults shelf.new) }
-    ensures write_faults { IfNone result (S.write_faults shelf.old ≤ S.write_faults shelf.new) }
-    ensures put_faults { IfNone result (O.faults out.old ≤ O.faults out.new) }
-    ensures lacks { IfNone result (O.lacks out.old ≤ O.lacks out.new) }
+    out: &'a str,
+    is_new: bool,
+    improver: &Improver<'_>,
+) -> Result<Vec<Writing<'a>>, AllocError>
+    requires { improver.now.instance ≡ inst.now.draft }
+    ensures writes { IfOk result (λ ws. map writing_of ws.items ≡ best_writes out.entry.now is_new improver.now) }
+    ensures sound { IsSound improver.now }
 {
-    let is_new = search_on(rt, improver);
-    let heat = improver.heat();
-    match write_best(rt, alloc, inst, name, is_new, improver, shelf) {
-        Ok(()) => put_line(rt, alloc, improver, rounds, heat, out),
-        Err(answer) => Some(conclude(rt, out, &answer)),
+    let mut writes = Vec::new(alloc);
+    let Some((plan, _)) = improver.best() else {
+        return Ok(writes);
+    };
+    if is_new {
+        let bytes = write_solution(alloc, inst, plan)?;
+        writes.push(Writing {
+            role: Role::Out,
+            name: out,
+            bytes,
+        })?;
+    }
+    Ok(writes)
+}
+
+// What is said once all rounds are over, and with which status.
+fn searched<'a>(
+    alloc: Global,
+    inst: &Instance,
+    improver: &Improver<'_>,
+) -> Result<Outcome<'a>, AllocError>
+    requires { improver.now.instance ≡ inst.now.draft }
+    ensures value { IfOk result (λ o. outcome_of o ≡ searched improver.now) }
+    ensures own { IfOk result (λ o. IsOwnStatus o.status) }
+{
+    let Some((plan, _)) = improver.best() else {
+        let text = String::from_str(alloc, "none found\n")?.into_bytes();
+        return Ok(Outcome::said(alloc, Status::NoneFound, text));
+    };
+    let text = report(alloc, inst, &bill(inst, plan))?;
+    Ok(Outcome::said(alloc, Status::Done, text))
+}
+
+impl<'i, 'o> Steps<'o> for Search<'i, 'o> {
+    ghost State = { ImproverState };
+
+    ghost state = { λ s. s.improver };
+
+    ghost Task = { List ℕ };
+
+    ghost task = { λ s. s.out.now };
+
+    ghost is_lawful = { λ s. (s.improver.instance ≡ s.inst.now.draft) × (s.rounds ≡ s.improver.settings.rounds) };
+
+    ghost left = { λ s. s.rounds - s.improver.rounds };
+
+    ghost steps_to = { IsRound Leaves };
+
+    ghost ends_as = { IsSearched };
+
+    fn step<R: Threads + Wait + Sync>(
+        &mut self,
+        rt: &R,
+        alloc: Global,
+    ) -> Result<Outcome<'o>, AllocError> {
+        let is_new = search_on(rt, &mut self.improver);
+        let writes = best_writes(alloc, self.inst, self.out, is_new, &self.improver)?;
+        let line = round_line(alloc, &self.improver, self.rounds, self.improver.heat())?;
+        Ok(Outcome {
+            writes,
+            text: line.into_bytes(),
+            status: Status::Done,
+        })
+    }
+
+    fn end(&self, alloc: Global) -> Result<Outcome<'o>, AllocError> {
+        searched(alloc, self.inst, &self.improver)
     }
 }

@@ -7,11 +7,9 @@ ghost use Rattle.ih_planning.specs.Ends.{CallEnds, HasFewPuts, IsComplete, IsUnt
 ghost use Rattle.ih_planning.specs.Words.{HasLawfulSettings, call_of, command_call};
 ghost use Rattle.ih_shelf.specs.Outside.{Rose};
 
-use crate::bounding::bound_of;
 use crate::command::{Command, read_words};
 use crate::explaining::NoCall;
 use crate::improving::improve;
-use crate::viewing::view;
 use ih_answers::{Answer, Status, conclude, conclude_memory};
 use ih_shelf::{Shelf, Sink};
 use std::alloc::Global;
@@ -38,14 +36,8 @@ fn perform<R: Files + Print + Threads + Wait + Sync, S: Shelf, O: Sink>(
 {
     match command {
         Command::Improve(call) => improve(rt, alloc, call, shelf, out),
-        Command::View(call) => {
-            let answer = view(rt, alloc, call, shelf);
-            conclude(rt, out, &answer)
-        }
-        Command::Bound(call) => {
-            let answer = bound_of(rt, alloc, call, shelf);
-            conclude(rt, out, &answer)
-        }
+        Command::View(call) => ih_frame::perform(rt, alloc, call, shelf, out),
+        Command::Bound(call) => ih_frame::perform(rt, alloc, call, shelf, out),
     }
 }
 

@@ -1,19 +1,19 @@
 //! The command `view`: its description for `clap` and its values.
 
-ghost use Rattle.std.specs.Prelude.{◌≡◌, IfOk, IfSome, is_some, codes, map, not, option_and_then, option_map, string_bytes};
+ghost use Rattle.std.specs.Prelude.{◌≡◌, IfOk, is_some, codes, map, not, option_and_then, option_map, string_bytes};
 ghost use Rattle.clap.specs.Words.{app_of, first_of, found_of, rows_of};
-ghost use Rattle.ih_dates.specs.{Calendar.IsDate, Words.date_in};
-ghost use Rattle.ih_words.specs.{Distinct.all_differ, Matches.call_by};
-ghost use Rattle.ih_planning.specs.View.{HasViewNames, lawful_view, names_a_day, view_app, view_call, view_files, view_in};
+ghost use Rattle.jiff.specs.Words.{date_parts};
+ghost use Rattle.ih_arguments.specs.{Distinct.all_differ, Matches.call_by};
+ghost use Rattle.ih_planning.specs.View.{HasViewNames, date_in, lawful_view, names_a_day, view_app, view_call, view_files, view_in};
 ghost use Rattle.ih_planning.specs.Explaining.{IsNoHelp, IsRead};
 
 use crate::arguments::with_help;
 use crate::explaining::{NoCall, explained, refused};
 use clap::{ArgMatches, Command};
-use ih_dates::{Date, date_in};
-use ih_words::arguments::{named, optional, with};
-use ih_words::file_names::all_differ;
-use ih_words::matches::{matched, optional_text_of, text_of};
+use ih_arguments::arguments::{named, optional, with};
+use ih_arguments::file_names::all_differ;
+use ih_arguments::matches::{matched, optional_text_of, text_of};
+use jiff::civil::Date;
 use std::alloc::{AllocError, Global};
 
 /// `view INSTANCE SOLUTION PAGE [--from DATE] [--since OLDER]`.
@@ -66,10 +66,20 @@ pub fn view_description<'a>(alloc: Global) -> Result<Command<'a>, AllocError>
     )
 }
 
+// The day that a word names, as 2026-01-05. The calendar's reader takes longer and shorter words too.
+fn date_in(word: &str) -> Option<Date>
+    ensures { option_map date_parts result ≡ date_in word.now }
+{
+    if word.len() != 10 {
+        return None;
+    }
+    word.parse().ok()
+}
+
 // The day that the word of `--from` names, where there is such a word and such a day.
 fn first_day(matches: &ArgMatches) -> Option<Date>
-    ensures day { result ≡ option_and_then date_in (first_of (codes "from") (rows_of (found_of matches.now))) }
-    ensures lawful { IfSome result IsDate }
+    ensures { option_map date_parts result
+        ≡ option_and_then date_in (first_of (codes "from") (rows_of (found_of matches.now))) }
 {
     date_in(optional_text_of(matches, "from")?)
 }
@@ -77,8 +87,7 @@ fn first_day(matches: &ArgMatches) -> Option<Date>
 // The values of `view`.
 fn view_in<'a>(matches: &ArgMatches<'a>) -> View<'a>
     requires { HasViewNames (rows_of (found_of matches.now)) }
-    ensures call { view_call result ≡ view_in (rows_of (found_of matches.now)) }
-    ensures lawful { IfSome result.from IsDate }
+    ensures { view_call result ≡ view_in (rows_of (found_of matches.now)) }
 {
     View {
         instance: text_of(matches, "INSTANCE"),
@@ -107,7 +116,8 @@ fn names_differ(view: &View) -> bool
 
 // The word of `--from` that names no day, where there is one.
 fn no_day<'a>(matches: &ArgMatches<'a>, view: &View) -> Option<&'a str>
-    requires { view.now.from ≡ option_and_then date_in (first_of (codes "from") (rows_of (found_of matches.now))) }
+    requires { option_map date_parts view.now.from
+        ≡ option_and_then date_in (first_of (codes "from") (rows_of (found_of matches.now))) }
     ensures { not (is_some result) ≡ names_a_day (rows_of (found_of matches.now)) }
 {
     match view.from {
@@ -128,9 +138,8 @@ fn refused_day(alloc: Global, word: &str) -> NoCall
 
 // Reads the words of `view`.
 pub(crate) fn read_view<'a>(alloc: Global, words: &'a [String]) -> Result<View<'a>, NoCall>
-    ensures read { IsRead view_call (call_by view_app lawful_view (map string_bytes words.entry.now)) view_app
+    ensures { IsRead view_call (call_by view_app lawful_view (map string_bytes words.entry.now)) view_app
         (map string_bytes words.entry.now) result }
-    ensures lawful { IfOk result (λ v. IfSome v.from IsDate) }
 {
     match matched(view_description(alloc), words) {
         Ok(matches) => {

@@ -1,65 +1,40 @@
 -- Files that are accepted, and journals: with no fault and memory enough a call comes past them, and finds one thing in
 -- them.
-use Rattle.std.proofs.Common.{◌≡◌, ℕ, refl, sym, ◌∙◌, ap, ap₂, subst, arith, inl, inr, List, length, Option, Some, None}
-use Rattle.std.specs.Prelude.{Result, Ok, Err, IfSome}
+use Rattle.std.proofs.Common.{◌≡◌, ℕ, refl, sym, ◌∙◌, ap, ap₂, subst, inl, inr, List, Option, Some, None}
+use Rattle.std.specs.Prelude.{Ok}
 use Rattle.ih_tables.specs.declared.drafts.Draft.{Draft}
-use Rattle.ih_tables.specs.declared.refusals.Refusal.{Refusal}
 use Rattle.ih_plan.specs.Timetable.{Timetable}
 use Rattle.ih_journal.specs.declared.entries.Entry.{Entry}
-use Rattle.ih_journal.specs.declared.refusals.JournalRefusal.{JournalRefusal}
+use Rattle.ih_tables.specs.declared.journal_refusals.JournalRefusal.{JournalRefusal}
 use Rattle.ih_journal.specs.declared.settings.Options.{Options}
 use Rattle.ih_journal.specs.Base.{Base}
 use Rattle.ih_journal.specs.Tried.{tries}
 use Rattle.ih_journal.specs.Legal.{IsFull}
 use Rattle.ih_journal.specs.Texts.{heading, lines_from}
 use Rattle.ih_journal.proofs.HeadTexts.{heading_lacks, headings_differ, lawful_short}
-use Rattle.ih_instance.specs.Instance.{instance}
-use Rattle.ih_solution.specs.Reading.{plan_in}
 use Rattle.ih_words.specs.Replay.{ReplayCall}
-use Rattle.ih_shelf.specs.Outside.{Names, bytes_at}
-use Rattle.ih_top.specs.declared.limits.TheConstants.{MAX_JOURNAL}
+use Rattle.ih_shelf.specs.Outside.{Names}
 use Rattle.ih_answers.specs.declared.status.Status.{Status}
-use Rattle.ih_answers.specs.declared.status.Status.TheVariants.{ReadFault, OutOfMemory, TooLong}
-use Rattle.ih_answers.specs.declared.status.Role.TheVariants.{Journal}
-use Rattle.ih_inputs.specs.declared.error.InputError.{InputError}
-use Rattle.ih_inputs.specs.declared.error.InputError.TheVariants.{ReadFault as Unreadable, TooLong as Long, InstanceRefused as NoInstance, SolutionRefused as NoSolution, OutOfMemory as NoRoom}
-use Rattle.ih_inputs.specs.declared.error.InputRole.TheVariants.{Instance as InstanceInput, Solution as SolutionInput}
-use Rattle.ih_inputs.specs.Reading.{InputFiles, HasInputs, HasPlan, HasSolution, IsLongerThan, IsNext, IsUnread}
+use Rattle.ih_answers.specs.declared.status.Status.TheVariants.{OutOfMemory}
+use Rattle.ih_inputs.specs.Reading.{HasInputs, HasPlan, two_files}
+use Rattle.ih_frame.specs.Ends.{HasNoFault}
+use Rattle.ih_frame.proofs.Complete.{accepted}
 use Rattle.ih_top.specs.Inputs.{replay_inputs}
-use Rattle.ih_answers.specs.Inputs.{EndsUnread, unread_status}
-use Rattle.ih_parfill.specs.Starts.{started}
+use Rattle.ih_answers.specs.Inputs.{EndsUnread}
+use Rattle.ih_fill.specs.Starts.{started}
 use Rattle.ih_top.specs.JournalEnds.{IsRefused}
-use Rattle.ih_top.specs.JournalFiles.{EndsUnreadJournal, HasRead, JournalRead}
+use Rattle.ih_top.specs.JournalFiles.{HasRead, JournalRead}
 use Rattle.ih_top.specs.JournalHeading.{IsHeadedBy, IsHeadless}
 use Rattle.ih_top.specs.Replay.{IsRefusedJournal}
-use Rattle.ih_top.specs.Laws.{HasNoFault}
 use Rattle.ih_top.proofs.FirstLines.{first-apart}
 
 -- ---- files that are accepted
 
-not-both : {A : Type 0} (r : Result A Refusal) (x : A) (e : Refusal) → r ≡ Ok x → r ≡ Err e → ⊥
-not-both r x e ok err = let clash : Ok x ≡ Err e = sym ok ∙ err in cc
-
-module _ (files : Names) (r : InputFiles) (I : Draft) (P : Timetable) (has : HasInputs (Some files) r I P) where
-  -- a file for the timetable gives it
-  given : (J : Draft) (name : List ℕ) → IsNext (Some files) r J name → HasSolution name J P files
-  given J name next =
-      let same : Ok I ≡ Ok J = sym has.instance.read ∙ next.instance.read in
-      let here : I ≡ J = cc in
-      subst (λ (X : Draft). HasSolution name X P files) here (subst (λ o. HasPlan (Some files) o I P) next.named has.plan)
-
-  -- with no fault, only lack of memory stops the reading
-  by-error : (e : InputError) → HasNoFault (unread_status e) → IsUnread (Some files) r e → unread_status e ≡ OutOfMemory
-  by-error (Unreadable role) calm h = absurd calm
-  by-error (Long InstanceInput) calm h = absurd (let short = has.instance.short in let long = h in omega arith)
-  by-error (Long SolutionInput) calm (J, name, next, long) = absurd (let short = (given J name next).short in omega arith)
-  by-error (NoInstance e) calm h = absurd (not-both (instance (bytes_at files r.instance)) I e has.instance.read h.read)
-  by-error (NoSolution e) calm (J, name, next, refused) =
-      absurd (not-both (plan_in J (bytes_at files name)) P e (given J name next).read refused.read)
-  by-error NoRoom calm h = refl
-
-  pub accepted : (status : Status) (text : List ℕ) → HasNoFault status → EndsUnread (Some files) r status text → status ≡ OutOfMemory
-  accepted status text calm (e, is, said, why) = is ∙ by-error e (subst HasNoFault is calm) why
+-- what the files of an instance and of a timetable give a call that names no other
+pub accepted-two : (files : Names) (name : List ℕ) (solution : Option (List ℕ)) (I : Draft) (P : Timetable) → HasInputs (Some files) (two_files name solution) I P
+    → (status : Status) (text : List ℕ) → HasNoFault status → EndsUnread (Some files) (two_files name solution) status text → status ≡ OutOfMemory
+accepted-two files name solution I P has =
+    accepted files (two_files name solution) (record { instance = I; plan = P; older = None; journal = None }) (record { inputs = has; older = refl; journal = refl })
 
 -- ---- journals that are accepted
 
@@ -115,15 +90,8 @@ module _ (files : Names) (r : ReplayCall) (x : JournalRead) (has : HasRead (Some
         (same.1 ∙ ap (λ (c : Base). lines_from c.options 0 H) (sym same.0))
   ]
 
-  start-accepted : (status : Status) (text : List ℕ) → HasNoFault status → EndsUnread (Some files) (replay_inputs r) status text → status ≡ OutOfMemory
-  start-accepted = accepted files (replay_inputs r) x.instance x.plan has.inputs
-
-  -- nor is it too long
-  not-long : IfSome (Some files) (IsLongerThan MAX_JOURNAL r.journal) → ⊥
-  not-long long = let short = has.journal.short in let held = ap length has.journal.held in omega (arith, short, long, held)
-
   -- with no fault, only lack of memory stops the reading
-  pub journal-accepted : (status : Status) (text : List ℕ) → HasNoFault status → EndsUnreadJournal (Some files) r status text → status ≡ OutOfMemory
-  journal-accepted (ReadFault role) text calm h = absurd calm
-  journal-accepted (TooLong Journal) text calm h = absurd (not-long h.1)
-  journal-accepted status text calm h = start-accepted status text calm h
+  pub journal-accepted : (status : Status) (text : List ℕ) → HasNoFault status → EndsUnread (Some files) (replay_inputs r) status text → status ≡ OutOfMemory
+  journal-accepted =
+      accepted files (replay_inputs r) (record { instance = x.instance; plan = x.plan; older = None; journal = Some x.bytes })
+      (record { inputs = has.inputs; older = refl; journal = has.journal })

@@ -24,7 +24,7 @@ use Rattle.ih_inputs.specs.Reading.{HasPlan}
 use Rattle.ih_top.specs.Laws.{DemosShowTheSame, LoneRoundsAreAlike, LoneSearchesAreAlike, LoneSearchesDoTheSame}
 use Rattle.ih_top.specs.Searches.{HasBase, JournalForm, solution_at, tries_in}
 use Rattle.ih_top.specs.Solve.{of_moves}
-use Rattle.ih_parfill.specs.Starts.{started}
+use Rattle.ih_fill.specs.Starts.{started}
 use Rattle.ih_top.specs.Texts.{demo_text, done_text}
 use Rattle.ih_top.proofs.Accepted.{base-same, same-plan}
 

@@ -4,7 +4,7 @@ use Rattle.std.specs.Prelude.{slice_index, unwrap_or}
 use Rattle.std.proofs.lemmas.List.{length-map}
 use Rattle.std.proofs.Math.Nat.{mul-le-mul_right}
 use Rattle.ih_journal.specs.declared.entries.Entry.{Entry}
-use Rattle.ih_journal.specs.declared.refusals.JournalRefusal.{JournalRefusal}
+use Rattle.ih_tables.specs.declared.journal_refusals.JournalRefusal.{JournalRefusal}
 use Rattle.ih_journal.specs.declared.settings.Options.{Options}
 use Rattle.ih_journal.specs.Base.{Base}
 use Rattle.ih_journal.specs.Settings.{most_entries}
@@ -19,10 +19,11 @@ use Rattle.ih_instance.proofs.DraftSound.{instance_sound}
 use Rattle.ih_words.specs.Replay.{ReplayCall}
 use Rattle.ih_words.specs.Words.{NamedCallsAreWithinLimits, chain}
 use Rattle.ih_shelf.specs.Outside.{Names, bytes_at}
-use Rattle.ih_top.specs.declared.limits.TheConstants.{MAX_JOURNAL}
+use Rattle.ih_inputs.specs.declared.reading.TheConstants.{MAX_JOURNAL}
 use Rattle.ih_answers.specs.declared.status.Status.{Status}
 use Rattle.ih_answers.specs.declared.status.Status.TheVariants.{JournalRefused}
-use Rattle.ih_top.specs.Laws.{ChainJournalsAreHeadless, ChainJournalsFit, ChainsAreRefused, EndsIn, HasNoFault}
+use Rattle.ih_frame.specs.Ends.{HasNoFault}
+use Rattle.ih_top.specs.Laws.{ChainJournalsAreHeadless, ChainJournalsFit, ChainsAreRefused, EndsIn}
 use Rattle.ih_top.specs.JournalEnds.{IsRefused, JournalEnds}
 use Rattle.ih_top.specs.JournalFiles.{HasRead, JournalRead}
 use Rattle.ih_top.specs.JournalHeading.{HasNoHeading, IsHeadedBy, IsHeadless, no_heading}

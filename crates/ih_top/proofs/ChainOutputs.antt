@@ -9,7 +9,8 @@ use Rattle.ih_journal.specs.declared.settings.Options.{Options}
 use Rattle.ih_journal.specs.Settings.{IsLawful}
 use Rattle.ih_journal.specs.Base.{Base}
 use Rattle.ih_journal.specs.Best.{BestIs}
-use Rattle.ih_journal.specs.Frozen.{AgreesBefore, is_before}
+use Rattle.ih_plan.specs.Frozen.{is_before}
+use Rattle.ih_journal.specs.Frozen.{AgreesBefore}
 use Rattle.ih_journal.specs.History.{plan_at}
 use Rattle.ih_cellbook.specs.Keeping.{base_with}
 use Rattle.ih_cellbook.proofs.Unfrozen.{none-before}

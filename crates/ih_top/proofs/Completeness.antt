@@ -1,10 +1,10 @@
 -- A call whose files are accepted, and in which no count rose, comes to its end.
-use Rattle.std.proofs.Common.{◌≡◌, ℕ, refl, inl, inr, List, Option, Some, None}
+use Rattle.std.proofs.Common.{◌≡◌, ℕ, refl, ap, inl, inr, Bool, true, false, List, Option, Some, None}
 use Rattle.std.specs.Prelude.{◌⊎◌}
-use Rattle.ih_tables.specs.declared.drafts.Draft.{Draft}
-use Rattle.ih_plan.specs.Timetable.{Timetable}
+use Rattle.ih_tables.specs.Bills.{feasible}
+use Rattle.ih_plan.specs.BillOf.{bill_of}
 use Rattle.ih_journal.specs.declared.entries.Entry.{Entry}
-use Rattle.ih_journal.specs.declared.refusals.JournalRefusal.{JournalRefusal}
+use Rattle.ih_tables.specs.declared.journal_refusals.JournalRefusal.{JournalRefusal}
 use Rattle.ih_journal.specs.Base.{Base}
 use Rattle.ih_journal.specs.Tried.{Tried}
 use Rattle.ih_words.specs.Advise.{AdviseCall}
@@ -15,43 +15,29 @@ use Rattle.ih_words.specs.Words.{Call, solve, replay, salvage, check, chain, rou
 use Rattle.ih_shelf.specs.Outside.{Names, Rose}
 use Rattle.ih_answers.specs.declared.status.Status.{Status}
 use Rattle.ih_answers.specs.declared.status.Status.TheVariants.{Done, ReadFault, NoneFound, WriteFault, OutOfMemory, Infeasible}
-use Rattle.ih_inputs.specs.Reading.{InputFiles, HasInputs}
-use Rattle.ih_top.specs.Inputs.{solve_inputs, check_inputs}
+use Rattle.ih_inputs.specs.Reading.{Given, HasGiven, InputFiles}
+use Rattle.ih_frame.specs.Ends.{AreAnswers, HasNoFault}
+use Rattle.ih_frame.specs.Outcomes.{OutcomeState}
+use Rattle.ih_frame.proofs.Complete.{accepted, command-answered, no-fault, reached}
+use Rattle.ih_top.specs.Inputs.{advise_inputs, check_inputs, solve_inputs}
 use Rattle.ih_answers.specs.Inputs.{EndsUnread}
 use Rattle.ih_top.specs.Chain.{of_chains}
 use Rattle.ih_top.specs.Solve.{of_moves}
 use Rattle.ih_top.specs.Texts.{done_text, salvaged_text}
-use Rattle.ih_top.specs.Generate.{GenEnds}
+use Rattle.ih_top.specs.Generate.{GenEnds, generated_outcome}
 use Rattle.ih_top.specs.JournalEnds.{IsRefused, JournalEnds}
 use Rattle.ih_top.specs.JournalFiles.{HasRead, JournalRead}
 use Rattle.ih_top.specs.JournalHeading.{IsHeadless}
 use Rattle.ih_top.specs.Replay.{IsRefusedJournal, IsReplay}
 use Rattle.ih_top.specs.Salvage.{IsSalvage}
 use Rattle.ih_top.specs.Ends.{CallEnds, Leaves, HasFiles, IsAnswered, IsComplete}
-use Rattle.ih_answers.specs.Ends.{Ends, HasCause}
-use Rattle.ih_top.specs.Advise.{AdviseEnds, advise_inputs}
-use Rattle.ih_top.specs.Check.{CheckEnds}
+use Rattle.ih_answers.specs.Ends.{HasCause}
+use Rattle.ih_top.specs.Advise.{IsAdvised}
+use Rattle.ih_top.specs.Check.{IsChecked, checked_status}
 use Rattle.ih_top.specs.Demo.{DemoEnds}
-use Rattle.ih_top.specs.Laws.{HasNoFault}
-use Rattle.ih_top.proofs.Accepted.{accepted, journal-accepted, not-headless, not-refused}
+use Rattle.ih_top.proofs.Accepted.{journal-accepted, not-headless, not-refused}
 use Rattle.ih_top.proofs.FaultlessEnds.{IsFaultless, journal-faultless, rounds-faultless, search-faultless}
-
--- ---- the status
-
-module _ (reads reads' writes writes' puts puts' : ℕ) (calm : (Rose reads reads' → ⊥)) (kept : (Rose writes writes' → ⊥)) (heard : (Rose puts puts' → ⊥)) where
-  -- where no count rose there is no fault
-  no-fault : (status : Status) → HasCause reads reads' writes writes' puts puts' status → HasNoFault status
-  no-fault (ReadFault role) cause = calm cause
-  no-fault (WriteFault None) cause = heard cause
-  no-fault (WriteFault (Some role)) cause = kept cause
-  no-fault status cause = tt
-
--- what holds of each end of a family, and where memory runs out, holds of the status that a call of it ends in
-reached : (answer : Status → Type 0) (ends : Status → List ℕ → Type 0) (why : Status → Type 0) (received part : List ℕ → Type 0) → answer OutOfMemory
-    → ((status : Status) (text : List ℕ) → HasNoFault status → ends status text → answer status)
-    → (status : Status) → HasNoFault status → Ends ends why received part status → answer status
-reached answer ends why received part memory f OutOfMemory calm h = memory
-reached answer ends why received part memory f status calm (text, h, g) = f status text calm h
+use Rattle.ih_top.proofs.Leaving.{left-by}
 
 -- ---- the commands
 
@@ -60,12 +46,12 @@ Searched status = (status ≡ Done) ⊎ (status ≡ NoneFound) ⊎ (status ≡ O
 
 module _ (files : Names) where
   -- of searches, whatever they leave
-  searched : {done none kept : Type 0} (r : InputFiles) (I : Draft) (P : Timetable) → HasInputs (Some files) r I P → (status : Status) (text : List ℕ)
+  searched : {done none kept : Type 0} (r : InputFiles) (g : Given) → HasGiven (Some files) r g → (status : Status) (text : List ℕ)
       → HasNoFault status → IsFaultless done none (kept × EndsUnread (Some files) r status text) status → Searched status
-  searched r I P has status text calm (inl memory) = inr (inr memory)
-  searched r I P has status text calm (inr (inl done)) = inl done.0
-  searched r I P has status text calm (inr (inr (inl none))) = inr (inl none.0)
-  searched r I P has status text calm (inr (inr (inr other))) = inr (inr (accepted files r I P has status text calm other.1))
+  searched r g has status text calm (inl memory) = inr (inr memory)
+  searched r g has status text calm (inr (inl done)) = inl done.0
+  searched r g has status text calm (inr (inr (inl none))) = inr (inl none.0)
+  searched r g has status text calm (inr (inr (inr other))) = inr (inr (accepted files r g has status text calm other.1))
 
   -- of replays and salvages
   replayed : (taken : JournalRead → Base → List Entry → Type 0) (refused : JournalRead → JournalRefusal → Type 0) (said : Base → List Tried → ℕ → List ℕ)
@@ -79,25 +65,23 @@ module _ (files : Names) where
     | inr (inr (inr (inr unread))) ↦ inr (inr (journal-accepted files r x has status text calm unread))
   ]
 
-  checked : (c : CheckCall) (I : Draft) (P : Timetable) → HasInputs (Some files) (check_inputs c) I P → (status : Status) (text : List ℕ)
-      → HasNoFault status → CheckEnds c (Some files) status text → IsAnswered (check c) status
-  checked c I P has Done text calm h = inl refl
-  checked c I P has Infeasible text calm h = inr (inl refl)
-  checked c I P has (WriteFault role) text calm h = absurd calm
-  checked c I P has status text calm h = inr (inr (accepted files (check_inputs c) I P has status text calm h))
+check-answers : (c : CheckCall) → AreAnswers IsChecked (IsAnswered (check c))
+check-answers c = record { outcomes = λ g o is. by_case (feasible (bill_of g.instance g.plan)) o.status (ap (λ (x : OutcomeState). x.status) is); memory = inr (inr refl) }
+  where
+    by_case : (whole : Bool) (status : Status) → status ≡ checked_status whole → IsAnswered (check c) status
+    by_case true status is = inl is
+    by_case false status is = inr (inl is)
 
-  advised : (a : AdviseCall) (I : Draft) (P : Timetable) → HasInputs (Some files) (advise_inputs a) I P → (status : Status) (text : List ℕ)
-      → HasNoFault status → AdviseEnds a (Some files) status text → IsAnswered (advise a) status
-  advised a I P has Done text calm h = inl refl
-  advised a I P has (WriteFault role) text calm h = absurd calm
-  advised a I P has status text calm h = inr (accepted files (advise_inputs a) I P has status text calm h)
+advise-answers : (a : AdviseCall) → AreAnswers (IsAdvised a) (IsAnswered (advise a))
+advise-answers a = record { outcomes = λ g o is. inl (ap (λ (x : OutcomeState). x.status) is); memory = inr refl }
 
+-- with no fault what is left is the whole outcome, or memory ran out
 generated : (g : GenCall) (old new : Option Names) (status : Status) (text : List ℕ) → HasNoFault status → GenEnds g old new status text
     → IsAnswered (gen g) status
-generated g old new Done text calm h = inl refl
-generated g old new (WriteFault role) text calm h = absurd calm
-generated g old new OutOfMemory text calm h = inr refl
-generated g old new status text calm h = absurd h
+generated g old new status text calm (inl lack) = inr lack.1
+generated g old new status text calm (inr h) =
+    left-by (generated_outcome g) old new (λ s t. HasNoFault s → IsAnswered (gen g) s) (λ told quiet. inl refl) (λ told quiet. absurd quiet)
+    (λ w one at quiet. absurd quiet) (λ told quiet. inr refl) status text h calm
 
 shown : (number : ℕ) (status : Status) (text : List ℕ) → HasNoFault status → DemoEnds number status text → IsAnswered (demo number) status
 shown number Done text calm h = inl refl
@@ -111,18 +95,20 @@ shown number status text calm h = absurd h
 -- each end of a call that no fault ended, and whose files are accepted, is an answer
 answered : (call : Call) (files : Names) (new : Option Names) → HasFiles call files → (status : Status) (text : List ℕ) → HasNoFault status
     → CallEnds call (Some files) new status text → IsAnswered call status
-answered (solve s) files new (I, P, has) status text calm h =
-    searched files (solve_inputs s) I P has status text calm (search-faultless of_moves s (Some files) new status text calm h)
-answered (chain c) files new (I, P, has) status text calm h =
-    searched files (solve_inputs c.search) I P has status text calm (search-faultless (of_chains c.length) c.search (Some files) new status text calm h)
-answered (rounds r) files new (I, P, has) status text calm h =
-    searched files (solve_inputs r.search) I P has status text calm (rounds-faultless r (Some files) new status text calm h)
+answered (solve s) files new (g, has) status text calm h =
+    searched files (solve_inputs s) g has status text calm (search-faultless of_moves s (Some files) new status text calm h)
+answered (chain c) files new (g, has) status text calm h =
+    searched files (solve_inputs c.search) g has status text calm (search-faultless (of_chains c.length) c.search (Some files) new status text calm h)
+answered (rounds r) files new (g, has) status text calm h =
+    searched files (solve_inputs r.search) g has status text calm (rounds-faultless r (Some files) new status text calm h)
 answered (replay r) files new (x, b, H, has, headed, full) status text calm h =
     replayed files (IsReplay r.start) (IsRefusedJournal r.start) done_text r new x has (not-refused files r x has b H headed full) status text calm h
 answered (salvage r) files new (x, b, lines, has, headed) status text calm h =
     replayed files (IsSalvage r.start) IsHeadless salvaged_text r new x has (not-headless files r x has b lines headed) status text calm h
-answered (check c) files new (I, P, has) status text calm h = checked files c I P has status text calm h.1
-answered (advise a) files new (I, P, has) status text calm h = advised files a I P has status text calm h.1
+answered (check c) files new (g, has) status text calm h =
+    command-answered IsChecked (check_inputs c) files new (IsAnswered (check c)) (check-answers c) g has status text calm h
+answered (advise a) files new (g, has) status text calm h =
+    command-answered (IsAdvised a) (advise_inputs a) files new (IsAnswered (advise a)) (advise-answers a) g has status text calm h
 answered (gen g) files new has status text calm h = generated g (Some files) new status text calm h
 answered (demo number) files new has status text calm h = shown number status text calm h.1
 

@@ -22,18 +22,19 @@ use Rattle.ih_answers.specs.declared.status.Role.TheVariants.{Instance, Solution
 use Rattle.ih_answers.specs.declared.status.Status.{Status}
 use Rattle.ih_answers.specs.declared.status.Status.TheVariants.{Done, InstanceRefused, StartRefused, NoneFound, OutOfMemory, TooLong}
 use Rattle.ih_inputs.specs.declared.error.InputError.{InputError}
-use Rattle.ih_inputs.specs.declared.error.InputError.TheVariants.{ReadFault as Unreadable, TooLong as Long, InstanceRefused as NoInstance, SolutionRefused as NoSolution, OutOfMemory as NoRoom}
-use Rattle.ih_inputs.specs.declared.error.InputRole.TheVariants.{Instance as InstanceInput, Solution as SolutionInput}
-use Rattle.ih_inputs.specs.Reading.{HasInputs, IsNext, IsUnread, InputFiles}
+use Rattle.ih_inputs.specs.declared.error.InputError.TheVariants.{ReadFault as Unreadable, TooLong as Long, InstanceRefused as NoInstance, OlderRefused as NoOlder, SolutionRefused as NoSolution, OutOfMemory as NoRoom}
+use Rattle.ih_inputs.specs.declared.error.InputRole.TheVariants.{Instance as InstanceInput, Journal as JournalInput, Older as OlderInput, Solution as SolutionInput}
+use Rattle.ih_inputs.specs.Reading.{HasInputs, IsNext, IsUnread, InputFiles, two_files}
+use Rattle.ih_frame.specs.Ends.{HasNoFault}
 use Rattle.ih_top.specs.Inputs.{solve_inputs}
 use Rattle.ih_answers.specs.Inputs.{EndsUnread, unread_said, unread_status}
-use Rattle.ih_top.specs.Laws.{EndTheSame, HasNoFault, LoneSearchesEndAlike}
+use Rattle.ih_top.specs.Laws.{EndTheSame, LoneSearchesEndAlike}
 use Rattle.ih_top.specs.Searches.{HasFoundNone, IsDone, JournalForm, SearchEnds, tries_in}
 use Rattle.ih_top.specs.Writes.{OthersUnchanged}
 use Rattle.ih_answers.specs.Ends.{Unchanged}
 use Rattle.ih_answers.specs.Texts.{instance_refused_text, solution_refused_text, too_long_text, none_found_text}
 use Rattle.ih_top.proofs.Alike.{IsTelling, searches-alike, searches-same}
-use Rattle.ih_top.proofs.Accepted.{accepted}
+use Rattle.ih_top.proofs.Accepted.{accepted-two}
 use Rattle.ih_answers.proofs.Stopping.{named}
 use Rattle.ih_top.proofs.FaultlessEnds.{IsFaultless, search-faultless}
 
@@ -69,13 +70,19 @@ within a b h = by_case (ltb a b) (Decides-ltb a b)
     by_case true is = absurd (let less : a < b = is.0 refl in omega (arith, h, less))
     by_case false is = refl
 
-module _ (files : Names) (r : InputFiles) where
+module _ (files : Names) (file : List ℕ) (start : Option (List ℕ)) where
+  abbrev r : InputFiles
+  r = two_files file start
+
   -- the instance is accepted, and a start is named
   at-start : (I : Draft) (name : List ℕ) → IsNext (Some files) r I name
       → ◌≡◌ {A = Status × List ℕ} (start-verdict (ltb MAX_FILE (length (bytes_at files name))) (plan_in I (bytes_at files name)) name) (verdict files r)
   at-start I name next =
       ap (next-verdict files I) (sym next.named)
       ∙ ap₂ (first-verdict files r) (within MAX_FILE (length (bytes_at files r.instance)) next.instance.short) (sym next.instance.read)
+
+  unnamed : (name : List ℕ) → ◌≡◌ {A = Option (List ℕ)} None (Some name) → ⊥
+  unnamed name is = let clash : ◌≡◌ {A = Option (List ℕ)} None (Some name) = is in cc
 
   by-error : (e : InputError) → HasNoFault (unread_status e) → unread_status e ≢ OutOfMemory → IsUnread (Some files) r e
       → ◌≡◌ {A = Status × List ℕ} (unread_status e, unread_said r e) (verdict files r)
@@ -92,6 +99,10 @@ module _ (files : Names) (r : InputFiles) where
       (within MAX_FILE (length (bytes_at files name)) refused.short) (sym refused.read)
       ∙ at-start I name next
   by-error NoRoom calm room h = absurd (room refl)
+  -- no other file is named
+  by-error (Long OlderInput) calm room (I, name, next, long) = absurd (unnamed name next.named)
+  by-error (Long JournalInput) calm room (name, next, long) = absurd (unnamed name next.named)
+  by-error (NoOlder e) calm room (I, name, next, refused) = absurd (unnamed name next.named)
 
   refused-so : (status : Status) (text : List ℕ) → HasNoFault status → status ≢ OutOfMemory → EndsUnread (Some files) r status text
       → ◌≡◌ {A = Status × List ℕ} (status, text) (verdict files r)
@@ -111,12 +122,12 @@ pub record IsUnreadEnd (x : InputFiles) (old new : Names) (status : Status) (tex
 abbrev pub IsEnd : Type 0 → Type 0 → InputFiles → Names → Names → Status → List ℕ → Type 0
 IsEnd done none x old new status text = ((status ≡ Done) × done) ⊎ ((status ≡ NoneFound) × none) ⊎ IsUnreadEnd x old new status text
 
-pub unread : (x : InputFiles) (old new : Names) (status : Status) (text : List ℕ) → HasNoFault status → status ≢ OutOfMemory → Unchanged old new
-    → EndsUnread (Some old) x status text → IsUnreadEnd x old new status text
-unread x old new status text calm room kept h = record {
+unread : (file : List ℕ) (start : Option (List ℕ)) (old new : Names) (status : Status) (text : List ℕ) → HasNoFault status → status ≢ OutOfMemory → Unchanged old new
+    → EndsUnread (Some old) (two_files file start) status text → IsUnreadEnd (two_files file start) old new status text
+unread file start old new status text calm room kept h = record {
   kept = kept;
-  so = refused-so old x status text calm room h;
-  never = λ I P has. room (accepted old x I P has status text calm h);
+  so = refused-so old file start status text calm room h;
+  never = λ I P has. room (accepted-two old file start I P has status text calm h);
 }
 
 pub unread-alike : (x : InputFiles) (old new other : Names) (status ended : Status) (text told : List ℕ) → IsUnreadEnd x old new status text
@@ -135,17 +146,18 @@ SearchEnd form s old new status text =
     (solve_inputs s) old new status text
 
 -- what no fault ended, nor lack of memory
-pub end-of : (done none : Type 0) (x : InputFiles) (old new : Names) (status : Status) (text : List ℕ) → HasNoFault status → status ≢ OutOfMemory
-    → IsFaultless done none (Unchanged old new × EndsUnread (Some old) x status text) status → IsEnd done none x old new status text
-end-of done none x old new status text calm room (inl memory) = absurd (room memory)
-end-of done none x old new status text calm room (inr (inl one)) = inl one
-end-of done none x old new status text calm room (inr (inr (inl two))) = inr (inl two)
-end-of done none x old new status text calm room (inr (inr (inr other))) = inr (inr (unread x old new status text calm room other.0 other.1))
+pub end-of : (done none : Type 0) (file : List ℕ) (start : Option (List ℕ)) (old new : Names) (status : Status) (text : List ℕ) → HasNoFault status → status ≢ OutOfMemory
+    → IsFaultless done none (Unchanged old new × EndsUnread (Some old) (two_files file start) status text) status
+    → IsEnd done none (two_files file start) old new status text
+end-of done none file start old new status text calm room (inl memory) = absurd (room memory)
+end-of done none file start old new status text calm room (inr (inl one)) = inl one
+end-of done none file start old new status text calm room (inr (inr (inl two))) = inr (inl two)
+end-of done none file start old new status text calm room (inr (inr (inr other))) = inr (inr (unread file start old new status text calm room other.0 other.1))
 
 search-end : {X : Type 0} (form : JournalForm X) (s : SolveCall) (old new : Names) (status : Status) (text : List ℕ) → HasNoFault status → status ≢ OutOfMemory
     → SearchEnds form s (Some old) (Some new) status text → SearchEnd form s old new status text
 search-end form s old new status text calm room h =
-    end-of _ _ (solve_inputs s) old new status text calm room (search-faultless form s (Some old) (Some new) status text calm h)
+    end-of _ _ s.instance s.start.file old new status text calm room (search-faultless form s (Some old) (Some new) status text calm h)
 
 -- ---- the same files
 

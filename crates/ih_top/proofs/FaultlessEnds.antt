@@ -2,7 +2,7 @@
 use Rattle.std.proofs.Common.{◌≡◌, ℕ, refl, inl, inr, List, Option}
 use Rattle.std.specs.Prelude.{◌⊎◌}
 use Rattle.ih_journal.specs.declared.entries.Entry.{Entry}
-use Rattle.ih_journal.specs.declared.refusals.JournalRefusal.{JournalRefusal}
+use Rattle.ih_tables.specs.declared.journal_refusals.JournalRefusal.{JournalRefusal}
 use Rattle.ih_journal.specs.Base.{Base}
 use Rattle.ih_journal.specs.Tried.{Tried, tries}
 use Rattle.ih_words.specs.Replay.{ReplayCall}
@@ -11,11 +11,11 @@ use Rattle.ih_words.specs.Solve.{SolveCall}
 use Rattle.ih_shelf.specs.Outside.{IsWritten, Names, IfTold}
 use Rattle.ih_answers.specs.declared.status.Status.{Status}
 use Rattle.ih_answers.specs.declared.status.Status.TheVariants.{Done, ReadFault, NoneFound, WriteFault, OutOfMemory, JournalRefused}
-use Rattle.ih_top.specs.Inputs.{solve_inputs}
+use Rattle.ih_top.specs.Inputs.{replay_inputs, solve_inputs}
 use Rattle.ih_answers.specs.Inputs.{EndsUnread}
 use Rattle.ih_top.specs.JournalEnds.{HasBest, HasNoBest, IsRefused, JournalEnds}
-use Rattle.ih_top.specs.JournalFiles.{EndsUnreadJournal, JournalRead}
-use Rattle.ih_top.specs.Laws.{HasNoFault}
+use Rattle.ih_top.specs.JournalFiles.{JournalRead}
+use Rattle.ih_frame.specs.Ends.{HasNoFault}
 use Rattle.ih_top.specs.Rounds.{AreDone, HaveFoundNone, RoundsEnds}
 use Rattle.ih_top.specs.Searches.{HasFoundNone, IsDone, JournalForm, SearchEnds, WritingEnds}
 use Rattle.ih_top.specs.Texts.{journal_refused_text}
@@ -62,7 +62,7 @@ module _ (taken : JournalRead → Base → List Entry → Type 0) (refused : Jou
   abbrev JournalFaultless : Status → List ℕ → Type 0
   JournalFaultless status text =
       IsFaultless ((d : HasBest taken IsWritten r old new) × (text ≡ said d.base (tries d.history) d.place)) (HasNoBest taken r old × (text ≡ none_found_text))
-      (IsJournalRefused status text ⊎ EndsUnreadJournal old r status text) status
+      (IsJournalRefused status text ⊎ EndsUnread old (replay_inputs r) status text) status
 
   pub journal-faultless : (status : Status) (text : List ℕ) → HasNoFault status → JournalEnds taken refused said r old new status text
       → JournalFaultless status text

@@ -1,80 +1,70 @@
 -- What a journal comes to, and how the call ends then.
-use Rattle.std.proofs.Common.{◌≡◌, ◌∙◌, ℕ, refl, sym, subst, inl, inr, List, Option, Some, None}
-use Rattle.std.specs.Prelude.{Result, Ok, Err, IfOk, IfSome}
+use Rattle.std.proofs.Common.{◌≡◌, ℕ, refl, sym, subst, inl, inr, List, [], ◌∷◌, Option, Some, None}
+use Rattle.std.specs.Prelude.{Result, Ok, Err, IfOk, IfSome, unwrap_or}
 use Rattle.ih_journal.specs.declared.entries.Entry.{Entry}
-use Rattle.ih_journal.specs.declared.refusals.JournalRefusal.{JournalRefusal}
+use Rattle.ih_tables.specs.declared.journal_refusals.JournalRefusal.{JournalRefusal}
 use Rattle.ih_journal.specs.Base.{Base}
 use Rattle.ih_journal.specs.Tried.{Tried, tries}
 use Rattle.ih_cellbook.specs.Keeping.{IsBase}
 use Rattle.ih_words.specs.Replay.{ReplayCall}
-use Rattle.ih_words.specs.Start.{StartCall}
+use Rattle.ih_arguments.specs.Start.{StartCall}
 use Rattle.ih_shelf.specs.Outside.{IsWritten, MayBeWritten, Names, IfTold}
-use Rattle.ih_answers.specs.declared.answer.Answer.{Answer}
+use Rattle.ih_inputs.specs.Reading.{Given, HasBytes, HasGiven, HasJournal}
 use Rattle.ih_top.specs.declared.journal_heading.Headed.{Headed}
 use Rattle.ih_top.specs.declared.output.BestOutput.{BestOutput}
-use Rattle.ih_top.specs.declared.outcome.Outcome.{Outcome}
-use Rattle.ih_top.specs.declared.outcome.Outcome.TheVariants.{Refused, Taken}
+use Rattle.ih_top.specs.declared.outcome.JournalOutcome.{JournalOutcome}
+use Rattle.ih_top.specs.declared.outcome.JournalOutcome.TheVariants.{Refused, Taken}
 use Rattle.ih_answers.specs.declared.status.Status.{Status}
-use Rattle.ih_answers.specs.declared.status.Status.TheVariants.{Done, ReadFault, NoneFound, WriteFault, OutOfMemory, JournalRefused, TooLong}
-use Rattle.ih_answers.specs.declared.status.Role.TheVariants.{Journal, Out}
-use Rattle.ih_answers.specs.Answers.{Answers}
-use Rattle.ih_top.specs.Outcomes.{AreLines, IsLinesOutcome, IsOutcome, IsTaken, OutcomeEnds, WritesBest}
+use Rattle.ih_answers.specs.declared.status.Status.TheVariants.{Done, NoneFound, WriteFault, OutOfMemory, JournalRefused}
+use Rattle.ih_answers.specs.declared.status.Role.TheVariants.{Out}
+use Rattle.ih_frame.specs.Ends.{CommandEnds}
+use Rattle.ih_frame.specs.Outcomes.{AreBegun, AreWritten, IsLeft, IsOneOf, StopsAt, WritingState, writes_one}
+use Rattle.ih_top.specs.Outcomes.{AreLines, IsLinesOutcome, IsOutcome, IsTaken, journal_outcome}
 use Rattle.ih_top.specs.Outputs.{IsBestSaid}
 use Rattle.ih_top.specs.JournalEnds.{HasBest, HasNoBest, IsRefused, JournalEnds}
 use Rattle.ih_top.specs.Inputs.{replay_inputs}
 use Rattle.ih_answers.specs.Inputs.{EndsUnread}
-use Rattle.ih_top.specs.JournalFiles.{EndsUnreadJournal, HasRead, JournalRead}
+use Rattle.ih_top.specs.JournalFiles.{HasRead, JournalRead, read_of}
 use Rattle.ih_top.specs.JournalHeading.{IsBegun, IsHeadedBy, IsHeadless, base_headed}
 use Rattle.ih_top.specs.Replay.{IsRefusedJournal, IsReplay}
 use Rattle.ih_top.specs.Salvage.{IsSalvage}
 use Rattle.ih_top.specs.declared.journals.JournalUse.{JournalUse}
 use Rattle.ih_top.specs.declared.journals.JournalUse.TheVariants.{Replay, Salvage}
-use Rattle.ih_top.specs.JournalUses.{IsLinesFor, IsOutcomeFor, refused_for}
-use Rattle.ih_answers.specs.Ends.{Unchanged}
-use Rattle.ih_answers.specs.Texts.{memory_text}
-use Rattle.ih_top.specs.Texts.{done_text, salvaged_text}
-use Rattle.ih_answers.proofs.Saying.{IsAnswerable, answers-weaker, unsaid-by}
+use Rattle.ih_top.specs.JournalUses.{IsJournalUse, IsLinesFor, IsOutcomeFor, JournalUseEnds, refused_for, said_for, taken_for}
+use Rattle.ih_answers.specs.Ends.{Ends, Unchanged}
+use Rattle.ih_answers.specs.Texts.{none_found_text, unwritten_text}
+use Rattle.ih_top.specs.Texts.{done_text, journal_refused_text, salvaged_text}
+use Rattle.ih_answers.proofs.Files.{told-weaker}
 use Rattle.ih_answers.proofs.Stopping.{unread-lack, unread-only}
-use Rattle.ih_answers.proofs.Files.{begun}
+use Rattle.ih_top.proofs.Leaving.{ends-weaker, left-by, one-begun, one-stopped, one-written, said-by}
 
--- ---- the ends of an outcome
-
-module _ (o : Outcome) (out : List ℕ) (old new : Option Names) where
-  writes-begun : WritesBest IsWritten o out old new → WritesBest MayBeWritten o out old new
-  writes-begun w = record { best = w.best; is = w.is; written = begun out _ old new w.written }
-
-  outcome-memory : (status : Status) (text : List ℕ) → OutcomeEnds o out old new status text → OutcomeEnds o out old new OutOfMemory memory_text
-  outcome-memory Done text h = (inr (writes-begun h.0), refl)
-  outcome-memory NoneFound text h = (inl h.0, refl)
-  outcome-memory (WriteFault None) text h = (inr (writes-begun h.0), refl)
-  outcome-memory (WriteFault (Some Out)) text h = (inr h.0, refl)
-  outcome-memory OutOfMemory text h = (h.0, refl)
-  outcome-memory (JournalRefused e) text h = (inl h.0, refl)
-  outcome-memory status text h = absurd h
-
-  pub outcome-answerable : IsAnswerable (OutcomeEnds o out old new)
-  outcome-answerable = record {
-    unsaid = λ status text some h. unsaid-by (OutcomeEnds o out old new) text (λ done. done) (λ none. absurd none) status h;
-    memory = outcome-memory;
-  }
-
--- ---- they are those of the call
+-- ---- how a call ends of which this is left
 
 module _ (taken : JournalRead → Base → List Entry → Type 0) (refused : JournalRead → JournalRefusal → Type 0) (said : Base → List Tried → ℕ → List ℕ)
-    (r : ReplayCall) (old new : Option Names) (x : JournalRead) (given : HasRead old r x) where
+    (r : ReplayCall) (old new : Option Names) where
   abbrev OfCall : Status → List ℕ → Type 0
   OfCall status text = JournalEnds taken refused said r old new status text
 
-  module _ (o : Outcome) (comes : IsOutcome (taken x) (refused x) said o) where
-    -- the best was taken from the journal
-    best-is : (best : BestOutput) → o ≡ Taken (Some best) → IsTaken (taken x) said (Some best)
-    best-is best is = subst (IsOutcome (taken x) (refused x) said) is comes
+  module _ (x : JournalRead) (given : HasRead old r x) where
+    refused-left : (e : JournalRefusal) → refused x e → (status : Status) (text : List ℕ) → IsLeft (journal_outcome r.out (Refused e)) old new status text → OfCall status text
+    refused-left e why = said-by (JournalRefused e) (journal_refused_text e) old new OfCall whole whole (λ kept. (inl kept, refl))
+      where
+        whole : IfTold Unchanged old new → OfCall (JournalRefused e) (journal_refused_text e)
+        whole kept = (kept, record { read = x; given = given; why = why }, refl)
 
-    writes-best : (writes : List ℕ → List ℕ → Names → Names → Type 0) → (w : WritesBest writes o r.out old new)
-        → (d : HasBest taken writes r old new) × (w.best.text.items ≡ said d.base (tries d.history) d.place)
-    writes-best writes w =
-        let t = best-is w.best w.is in
-        let saved : IsBestSaid said t.base (tries t.history) w.best = t.output in (
+    none-left : IsTaken (taken x) said None → (status : Status) (text : List ℕ) → IsLeft (journal_outcome r.out (Taken None)) old new status text → OfCall status text
+    none-left t = said-by NoneFound none_found_text old new OfCall whole whole (λ kept. (inl kept, refl))
+      where
+        whole : IfTold Unchanged old new → OfCall NoneFound none_found_text
+        whole kept = (kept, record { read = x; base = t.base; history = t.history; given = given; taken_is = t.taken_is; none = t.output }, refl)
+
+    module _ (best : BestOutput) (t : IsTaken (taken x) said (Some best)) where
+      abbrev one : WritingState
+      one = record { role = Out; name = r.out; bytes = best.solution.items }
+
+      abbrev writes-best : (writes : List ℕ → List ℕ → Names → Names → Type 0) → IfTold (writes r.out best.solution.items) old new → HasBest taken writes r old new
+      writes-best writes written =
+          let saved : IsBestSaid said t.base (tries t.history) best = t.output in
           record {
             read = x;
             base = t.base;
@@ -83,31 +73,61 @@ module _ (taken : JournalRead → Base → List Entry → Type 0) (refused : Jou
             given = given;
             taken_is = t.taken_is;
             best = saved.best;
-            written = subst (λ bytes. IfTold (writes r.out bytes) old new) saved.solution w.written;
-          },
-          saved.text,
-        )
+            written = subst (λ bytes. IfTold (writes r.out bytes) old new) saved.solution written;
+          }
 
-    finds-none : o ≡ Taken None → HasNoBest taken r old
-    finds-none is =
-        let t : IsTaken (taken x) said None = subst (IsOutcome (taken x) (refused x) said) is comes in
-        record { read = x; base = t.base; history = t.history; given = given; taken_is = t.taken_is; none = t.output }
+      best-stops : (w : WritingState) → IsOneOf w (one ∷ []) → IfTold (StopsAt w (one ∷ [])) old new → OfCall (WriteFault (Some w.role)) (unwritten_text w.name)
+      best-stops w (inl is) at =
+          subst (λ (v : WritingState). OfCall (WriteFault (Some v.role)) (unwritten_text v.name)) (sym is)
+          (writes-best MayBeWritten (told-weaker (StopsAt w (one ∷ [])) (MayBeWritten r.out best.solution.items) old new (λ x y h. one-stopped one x y w h) at), refl)
+      best-stops w (inr never) at = absurd never
 
-    is-refused : (e : JournalRefusal) → o ≡ Refused e → IsRefused refused r old e
-    is-refused e is = record { read = x; given = given; why = subst (IsOutcome (taken x) (refused x) said) is comes }
+      best-left : (status : Status) (text : List ℕ) → IsLeft (journal_outcome r.out (Taken (Some best))) old new status text → OfCall status text
+      best-left = left-by (writes_one Out r.out best.solution.items best.text.items) old new OfCall whole whole best-stops
+          (λ told. (inr (writes-best MayBeWritten (told-weaker (AreBegun (one ∷ [])) (MayBeWritten r.out best.solution.items) old new (one-begun one) told)), refl))
+        where
+          whole : IfTold (AreWritten (one ∷ [])) old new → OfCall Done best.text.items
+          whole told =
+              let saved : IsBestSaid said t.base (tries t.history) best = t.output in
+              (writes-best IsWritten (told-weaker (AreWritten (one ∷ [])) (IsWritten r.out best.solution.items) old new (one-written one) told), saved.text)
 
-    pub outcome-ends : (status : Status) (text : List ℕ) → OutcomeEnds o r.out old new status text → OfCall status text
-    outcome-ends Done text h = let d = writes-best IsWritten h.0 in (d.0, h.1 ∙ d.1)
-    outcome-ends NoneFound text h = (h.0, finds-none h.1, h.2)
-    outcome-ends (WriteFault None) text h = let d = writes-best IsWritten h.0 in (d.0, h.1 ∙ d.1)
-    outcome-ends (WriteFault (Some Out)) text h = ((writes-best MayBeWritten h.0).0, h.1)
-    outcome-ends OutOfMemory text (inl same, said_is) = (inl same, said_is)
-    outcome-ends OutOfMemory text (inr w, said_is) = (inr (writes-best MayBeWritten w).0, said_is)
-    outcome-ends (JournalRefused e) text h = (h.0, is-refused e h.1, h.2)
-    outcome-ends status text h = absurd h
+    outcome-left : (o : JournalOutcome) → IsOutcome (taken x) (refused x) said o → (status : Status) (text : List ℕ) → IsLeft (journal_outcome r.out o) old new status text
+        → OfCall status text
+    outcome-left (Refused e) why = refused-left e why
+    outcome-left (Taken None) t = none-left t
+    outcome-left (Taken (Some best)) t = best-left best t
 
-    pub outcome-answer : (a : Answer) → Answers (OutcomeEnds o r.out old new) a → Answers (JournalEnds taken refused said r old new) a
-    outcome-answer a h = answers-weaker (OutcomeEnds o r.out old new) OfCall outcome-ends a h
+  -- a call that comes no further than its files
+  unread-journal : IfTold Unchanged old new → (status : Status) (text : List ℕ) → EndsUnread old (replay_inputs r) status text → OfCall status text
+  unread-journal kept Done text h = absurd (unread-only old (replay_inputs r) Done text h)
+  unread-journal kept NoneFound text h = absurd (unread-only old (replay_inputs r) NoneFound text h)
+  unread-journal kept (WriteFault role) text h = absurd (unread-only old (replay_inputs r) (WriteFault role) text h)
+  unread-journal kept OutOfMemory text h = (inl kept, unread-lack old (replay_inputs r) text h)
+  unread-journal kept (JournalRefused e) text h = absurd (unread-only old (replay_inputs r) (JournalRefused e) text h)
+  unread-journal kept status text h = (kept, h)
+
+-- what the files give a call that names a journal
+read-given : (files : Option Names) (r : ReplayCall) (g : Given) → HasGiven files (replay_inputs r) g → HasRead files r (read_of g)
+read-given files r g has = record { inputs = has.inputs; journal = by_journal g.journal has.journal }
+  where
+    by_journal : (bytes : Option (List ℕ)) → HasJournal files (Some r.journal) bytes → IfSome files (HasBytes r.journal (unwrap_or bytes []))
+    by_journal None never = absurd never
+    by_journal (Some bytes) one = one
+
+journal-ends : (journal_use : JournalUse) (r : ReplayCall) (old new : Option Names) (status : Status) (text : List ℕ)
+    → CommandEnds (IsJournalUse journal_use r) (replay_inputs r) old new status text → JournalUseEnds journal_use r old new status text
+journal-ends journal_use r old new status text (inl (kept, unread)) =
+    unread-journal (taken_for journal_use r.start) (refused_for journal_use r.start) (said_for journal_use) r old new kept status text unread
+journal-ends journal_use r old new status text (inr p) =
+    outcome-left (taken_for journal_use r.start) (refused_for journal_use r.start) (said_for journal_use) r old new (read_of p.given)
+    (read-given old r p.given p.read) p.comes.found p.comes.is status text (subst (λ o. IsLeft o old new status text) p.comes.left p.left)
+
+-- the same of a call that was said
+pub journal-ended : (journal_use : JournalUse) (r : ReplayCall) (old new : Option Names) (cause : Status → Type 0) (received part : List ℕ → Type 0) (status : Status)
+    → Ends (CommandEnds (IsJournalUse journal_use r) (replay_inputs r) old new) cause received part status
+    → Ends (JournalUseEnds journal_use r old new) cause received part status
+journal-ended journal_use r old new cause received part =
+    ends-weaker (CommandEnds (IsJournalUse journal_use r) (replay_inputs r) old new) (JournalUseEnds journal_use r old new) cause received part (journal-ends journal_use r old new)
 
 -- ---- a journal whose heading was read
 
@@ -124,7 +144,7 @@ module _ (s : StartCall) (x : JournalRead) (o : Option Headed) (h : Headed) (is 
 -- ---- what the lines come to is what the journal comes to
 
 module _ (s : StartCall) (x : JournalRead) (b : Base) (lines : List ℕ) (headed : IsHeadedBy s x b lines) where
-  replay-outcome : (o : Outcome) → IsLinesOutcome b lines o → IsOutcome (IsReplay s x) (IsRefusedJournal s x) done_text o
+  replay-outcome : (o : JournalOutcome) → IsLinesOutcome b lines o → IsOutcome (IsReplay s x) (IsRefusedJournal s x) done_text o
   replay-outcome (Refused e) t = inr (record { base = b; history = t.history; bytes = lines; headed = headed; refused = t.refused; none = t.none })
   replay-outcome (Taken best) t = record {
     base = b;
@@ -141,12 +161,12 @@ module _ (s : StartCall) (x : JournalRead) (b : Base) (lines : List ℕ) (headed
     output = t.output;
   }
 
-  outcome-for : (journal_use : JournalUse) (o : Outcome) → IsLinesFor journal_use b lines o → IsOutcomeFor journal_use s x o
+  outcome-for : (journal_use : JournalUse) (o : JournalOutcome) → IsLinesFor journal_use b lines o → IsOutcomeFor journal_use s x o
   outcome-for Replay o t = replay-outcome o t
   outcome-for Salvage (Taken best) t = salvage-outcome best t
   outcome-for Salvage (Refused e) t = absurd t
 
-  pub result-for : {E : Type 0} (journal_use : JournalUse) (r : Result Outcome E) → IfOk r (IsLinesFor journal_use b lines) → IfOk r (IsOutcomeFor journal_use s x)
+  pub result-for : {E : Type 0} (journal_use : JournalUse) (r : Result JournalOutcome E) → IfOk r (IsLinesFor journal_use b lines) → IfOk r (IsOutcomeFor journal_use s x)
   result-for journal_use (Ok o) t = outcome-for journal_use o t
   result-for journal_use (Err e) t = t
 
@@ -154,20 +174,3 @@ module _ (s : StartCall) (x : JournalRead) (b : Base) (lines : List ℕ) (headed
 pub headless-for : (journal_use : JournalUse) (s : StartCall) (x : JournalRead) (e : JournalRefusal) → IsHeadless x e → refused_for journal_use s x e
 headless-for Replay s x e h = inl h
 headless-for Salvage s x e h = h
-
--- ---- a call that comes no further than its files
-
-module _ (taken : JournalRead → Base → List Entry → Type 0) (refused : JournalRead → JournalRefusal → Type 0) (said : Base → List Tried → ℕ → List ℕ)
-    (r : ReplayCall) (old new : Option Names) (kept : IfTold Unchanged old new) where
-  pub unread-journal : (status : Status) (text : List ℕ) → EndsUnreadJournal old r status text → JournalEnds taken refused said r old new status text
-  unread-journal Done text h = absurd (unread-only old (replay_inputs r) Done text h)
-  unread-journal NoneFound text h = absurd (unread-only old (replay_inputs r) NoneFound text h)
-  unread-journal (WriteFault role) text h = absurd (unread-only old (replay_inputs r) (WriteFault role) text h)
-  unread-journal OutOfMemory text h = (inl kept, unread-lack old (replay_inputs r) text h)
-  unread-journal (JournalRefused e) text h = absurd (unread-only old (replay_inputs r) (JournalRefused e) text h)
-  unread-journal status text h = (kept, h)
-
-  pub unread-start : (status : Status) (text : List ℕ) → EndsUnread old (replay_inputs r) status text → JournalEnds taken refused said r old new status text
-  unread-start (ReadFault Journal) text h = absurd (unread-only old (replay_inputs r) (ReadFault Journal) text h)
-  unread-start (TooLong Journal) text h = absurd (unread-only old (replay_inputs r) (TooLong Journal) text h)
-  unread-start status text h = unread-journal status text h

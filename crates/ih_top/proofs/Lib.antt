@@ -1,9 +1,7 @@
 pub mod Accepted
-pub mod AdviseAnswers
 pub mod Alike
 pub mod ChainHeadings
 pub mod ChainOutputs
-pub mod CheckAnswers
 pub mod CommandEnds
 pub mod Completeness
 pub mod DemoSearches
@@ -12,7 +10,7 @@ pub mod FaultlessEnds
 pub mod FirstLines
 pub mod JournalLaws
 pub mod JournalOutcomes
-pub mod JournalReading
+pub mod Leaving
 pub mod Methods
 pub mod RoundHeadings
 pub mod RoundsAlike

@@ -1,50 +1,66 @@
--- What a search makes by each method, and how its call ends.
-use Rattle.std.proofs.Common.{Option}
-use Rattle.std.specs.Prelude.{Result, IfOk}
+-- How a call that searches ends, by its method.
+use Rattle.std.proofs.Common.{◌≡◌, ℕ, refl, subst, inl, inr, List, Option}
+use Rattle.std.specs.Prelude.{◌≢◌}
 use Rattle.ih_journal.specs.Base.{Base}
 use Rattle.ih_words.specs.Solve.{SolveCall}
 use Rattle.ih_words.specs.Rounds.{RoundsCall}
 use Rattle.ih_shelf.specs.Outside.{Names, IfTold}
-use Rattle.ih_answers.specs.declared.answer.Answer.{Answer}
 use Rattle.ih_top.specs.declared.output.Output.{Output}
 use Rattle.ih_top.specs.declared.searching.Method.{Method}
 use Rattle.ih_top.specs.declared.searching.Method.TheVariants.{Moves, Chains, Rounds}
-use Rattle.ih_answers.specs.Answers.{Answers}
+use Rattle.ih_answers.specs.declared.status.Status.{Status}
+use Rattle.ih_frame.specs.Ends.{CommandEnds}
+use Rattle.ih_frame.specs.Outcomes.{IsLeft}
 use Rattle.ih_top.specs.Chain.{of_chains}
 use Rattle.ih_top.specs.Inputs.{solve_inputs}
 use Rattle.ih_answers.specs.Inputs.{EndsUnread}
-use Rattle.ih_top.specs.Methods.{IsMade, MethodEnds}
-use Rattle.ih_top.specs.Outputs.{MadeEnds}
-use Rattle.ih_top.specs.Rounds.{AreDone, RoundsEnds}
-use Rattle.ih_top.specs.Searches.{HasBase, IsDone, JournalForm, SearchEnds}
+use Rattle.ih_top.specs.Methods.{IsMade, IsSearched, MethodEnds}
+use Rattle.ih_top.specs.Outputs.{base_from, search_outcome}
+use Rattle.ih_top.specs.Rounds.{AreDone, HaveBegun, HaveFound, HaveFoundNone, RoundsEnds}
+use Rattle.ih_top.specs.Searches.{HasBase, HasBegun, HasFound, HasFoundNone, IsDone, JournalForm, SearchEnds}
 use Rattle.ih_top.specs.Solve.{of_moves}
-use Rattle.ih_answers.specs.Ends.{Unchanged}
-use Rattle.ih_top.proofs.RoundsWriting.{made-rounds}
-use Rattle.ih_answers.proofs.Saying.{answers-weaker}
-use Rattle.ih_top.proofs.Writing.{made-answer, unread-writing}
+use Rattle.ih_answers.specs.Ends.{Ends, Unchanged}
+use Rattle.ih_top.proofs.Leaving.{ends-weaker}
+use Rattle.ih_top.proofs.RoundsWriting.{rounds-left}
+use Rattle.ih_top.proofs.Writing.{search-left, unread-writing}
 
--- ---- what was made is written
-
-pub made-by : {E : Type 0} (method : Method) (s : SolveCall) (made : Result Output E) (old new : Option Names) (b : Base) → HasBase old s b
-    → IfOk made (IsMade method b) → (a : Answer) → Answers (MadeEnds s made old new) a → Answers (MethodEnds method s old new) a
-made-by Moves s = made-answer of_moves s
-made-by (Chains each) s = made-answer (of_chains each) s
-made-by (Rounds count) s = made-rounds (record { search = s; rounds = count })
+-- what is left of what was made
+made-left : (method : Method) (s : SolveCall) (o : Output) (old new : Option Names) (b : Base) → HasBase old s b → IsMade method b o → s.out ≢ s.journal
+    → (status : Status) (text : List ℕ) → IsLeft (search_outcome s o.journal.items o.best) old new status text → MethodEnds method s old new status text
+made-left Moves s o old new b given is differ = search-left of_moves s o old new b given is differ o.best is.best
+made-left (Chains each) s o old new b given is differ = search-left (of_chains each) s o old new b given is differ o.best is.best
+made-left (Rounds count) s o old new b given is differ =
+    rounds-left (record { search = s; rounds = count }) o old new b given is differ o.best is.best
 
 -- ---- a call that comes no further than its files
 
-unread-search : {X : Type 0} (form : JournalForm X) (s : SolveCall) (old new : Option Names) → IfTold Unchanged old new → (a : Answer)
-    → Answers (EndsUnread old (solve_inputs s)) a → Answers (SearchEnds form s old new) a
-unread-search form s old new kept = answers-weaker (EndsUnread old (solve_inputs s)) (SearchEnds form s old new)
-    (unread-writing _ _ _ (λ text. IsDone form s old new text) s old new kept)
+unread-search : {X : Type 0} (form : JournalForm X) (s : SolveCall) (old new : Option Names) → IfTold Unchanged old new → (status : Status) (text : List ℕ)
+    → EndsUnread old (solve_inputs s) status text → SearchEnds form s old new status text
+unread-search form s old new =
+    unread-writing (HasBegun form s old new) (HasFoundNone form s old new) (HasFound form s old new) (λ text. IsDone form s old new text) s old new
 
-unread-rounds : (r : RoundsCall) (old new : Option Names) → IfTold Unchanged old new → (a : Answer)
-    → Answers (EndsUnread old (solve_inputs r.search)) a → Answers (RoundsEnds r old new) a
-unread-rounds r old new kept = answers-weaker (EndsUnread old (solve_inputs r.search)) (RoundsEnds r old new)
-    (unread-writing _ _ _ (λ text. AreDone r old new text) r.search old new kept)
-
-pub unread-by : (method : Method) (s : SolveCall) (old new : Option Names) → IfTold Unchanged old new → (a : Answer)
-    → Answers (EndsUnread old (solve_inputs s)) a → Answers (MethodEnds method s old new) a
+unread-by : (method : Method) (s : SolveCall) (old new : Option Names) → IfTold Unchanged old new → (status : Status) (text : List ℕ)
+    → EndsUnread old (solve_inputs s) status text → MethodEnds method s old new status text
 unread-by Moves s = unread-search of_moves s
 unread-by (Chains each) s = unread-search (of_chains each) s
-unread-by (Rounds count) s = unread-rounds (record { search = s; rounds = count })
+unread-by (Rounds count) s = λ old new.
+    let r : RoundsCall = record { search = s; rounds = count } in
+    unread-writing (HaveBegun r old new) (HaveFoundNone r old new) (HaveFound r old new) (λ text. AreDone r old new text) s old new
+
+-- ---- any call
+
+searched-ends : (method : Method) (s : SolveCall) → s.out ≢ s.journal → (old new : Option Names) (status : Status) (text : List ℕ)
+    → CommandEnds (IsSearched method s) (solve_inputs s) old new status text → MethodEnds method s old new status text
+searched-ends method s differ old new status text (inl (kept, unread)) = unread-by method s old new kept status text unread
+searched-ends method s differ old new status text (inr p) =
+    made-left method s p.comes.output old new (base_from s p.given)
+    (record {
+      start = record { plan = p.given.plan; inputs = record { instance = p.read.inputs.instance; plan = p.read.inputs.plan }; started = record { instance = refl; start = refl; freeze = refl } };
+      options = refl;
+    }) p.comes.made differ status text (subst (λ o. IsLeft o old new status text) p.comes.left p.left)
+
+-- the same of a call that was said
+pub searched-ended : (method : Method) (s : SolveCall) → s.out ≢ s.journal → (old new : Option Names) (cause : Status → Type 0) (received part : List ℕ → Type 0) (status : Status)
+    → Ends (CommandEnds (IsSearched method s) (solve_inputs s) old new) cause received part status → Ends (MethodEnds method s old new) cause received part status
+searched-ended method s differ old new cause received part =
+    ends-weaker (CommandEnds (IsSearched method s) (solve_inputs s) old new) (MethodEnds method s old new) cause received part (searched-ends method s differ old new)

@@ -4,7 +4,7 @@ use Rattle.std.proofs.lemmas.List.{length-map}
 use Rattle.std.specs.Prelude.{Bool, unwrap_or}
 use Rattle.ih_tables.specs.Valid.{IsValid}
 use Rattle.ih_journal.specs.declared.entries.Entry.{Entry}
-use Rattle.ih_journal.specs.declared.refusals.JournalRefusal.{JournalRefusal}
+use Rattle.ih_tables.specs.declared.journal_refusals.JournalRefusal.{JournalRefusal}
 use Rattle.ih_journal.specs.Base.{Base}
 use Rattle.ih_journal.specs.Tried.{Tried, tried, tries}
 use Rattle.ih_journal.specs.Best.{HasNone, IsBest}
@@ -21,13 +21,13 @@ use Rattle.ih_replay.specs.Laws.{LegalJournalsAreTaken, LegalJournalsDiffer, Tak
 use Rattle.ih_words.specs.Replay.{ReplayCall}
 use Rattle.ih_words.specs.Solve.{SolveCall}
 use Rattle.ih_shelf.specs.Outside.{Names, bytes_at}
-use Rattle.ih_inputs.specs.declared.reading.TheConstants.{MAX_FILE}
-use Rattle.ih_top.specs.declared.limits.TheConstants.{MAX_JOURNAL}
+use Rattle.ih_inputs.specs.declared.reading.TheConstants.{MAX_FILE, MAX_JOURNAL}
 use Rattle.ih_answers.specs.declared.status.Status.{Status}
 use Rattle.ih_answers.specs.declared.status.Status.TheVariants.{Done, NoneFound}
 use Rattle.ih_inputs.specs.Reading.{HasInstance, HasPlan}
 use Rattle.ih_top.specs.JournalLines.{Begins}
-use Rattle.ih_top.specs.Laws.{ComesTo, EndsIn, HasNoFault, HaveSameBytes, IsReplayOf, JournalsFit, SolvesReplayTheSame, SolvesWithNoneReplayTheSame}
+use Rattle.ih_frame.specs.Ends.{HasNoFault}
+use Rattle.ih_top.specs.Laws.{ComesTo, EndsIn, HaveSameBytes, IsReplayOf, JournalsFit, SolvesReplayTheSame, SolvesWithNoneReplayTheSame}
 use Rattle.ih_top.specs.JournalEnds.{IsRefused, JournalEnds}
 use Rattle.ih_top.specs.JournalFiles.{HasRead, JournalRead}
 use Rattle.ih_top.specs.JournalHeading.{IsHeadedBy, IsHeadless}
@@ -35,7 +35,7 @@ use Rattle.ih_top.specs.Replay.{IsRefusedJournal, IsReplay}
 use Rattle.ih_top.specs.Salvage.{IsSalvage}
 use Rattle.ih_top.specs.Searches.{HasBase, IsSearch, solution_at}
 use Rattle.ih_top.specs.Solve.{of_moves}
-use Rattle.ih_parfill.specs.Starts.{started}
+use Rattle.ih_fill.specs.Starts.{started}
 use Rattle.ih_top.specs.Texts.{done_text, salvaged_line, salvaged_text}
 use Rattle.ih_answers.specs.Texts.{none_found_text}
 use Rattle.ih_top.proofs.Accepted.{journal-accepted, not-headless, not-refused, same-search}

@@ -7,9 +7,9 @@ use Rattle.std.proofs.lemmas.List.{append-nil, append_cancel_left}
 use Rattle.ih_tables.specs.Valid.{IsValid}
 use Rattle.ih_plan.specs.Timetable.{IsPlanOf}
 use Rattle.ih_journal.specs.declared.entries.Entry.{Entry}
-use Rattle.ih_journal.specs.declared.refusals.JournalRefusal.{JournalRefusal}
-use Rattle.ih_journal.specs.declared.refusals.Reason.{Reason}
-use Rattle.ih_journal.specs.declared.refusals.Reason.TheVariants.{Extra}
+use Rattle.ih_tables.specs.declared.journal_refusals.JournalRefusal.{JournalRefusal}
+use Rattle.ih_tables.specs.declared.journal_refusals.Reason.{Reason}
+use Rattle.ih_tables.specs.declared.journal_refusals.Reason.TheVariants.{Extra}
 use Rattle.ih_journal.specs.declared.settings.Options.{Options}
 use Rattle.ih_journal.specs.Base.{Base}
 use Rattle.ih_journal.specs.Settings.{most_entries}
@@ -29,17 +29,18 @@ use Rattle.ih_shelf.specs.Outside.{Names, bytes_at}
 use Rattle.ih_words.specs.Replay.{ReplayCall}
 use Rattle.ih_words.specs.Rounds.{RoundsCall}
 use Rattle.ih_words.specs.Words.{NamedCallsAreWithinLimits, rounds}
-use Rattle.ih_top.specs.declared.limits.TheConstants.{MAX_JOURNAL}
+use Rattle.ih_inputs.specs.declared.reading.TheConstants.{MAX_JOURNAL}
 use Rattle.ih_answers.specs.declared.status.Status.{Status}
 use Rattle.ih_answers.specs.declared.status.Status.TheVariants.{JournalRefused}
 use Rattle.ih_top.specs.JournalEnds.{IsRefused}
 use Rattle.ih_top.specs.JournalFiles.{HasRead, JournalRead}
 use Rattle.ih_top.specs.JournalHeading.{IsHeadedBy, IsHeadless}
 use Rattle.ih_top.specs.JournalLines.{Begins, HasLine, IsRefusedAt, IsRestRefused}
-use Rattle.ih_top.specs.Laws.{ComesTo, EndsIn, HasNoFault, IsReplayOf, RoundJournalsFit, RoundsAreRefused, RoundsAreSalvaged, second_heading}
+use Rattle.ih_frame.specs.Ends.{HasNoFault}
+use Rattle.ih_top.specs.Laws.{ComesTo, EndsIn, IsReplayOf, RoundJournalsFit, RoundsAreRefused, RoundsAreSalvaged, second_heading}
 use Rattle.ih_top.specs.Replay.{IsRefusedJournal, IsReplay, ReplayEnds}
 use Rattle.ih_top.specs.Rounds.{AreSearches}
-use Rattle.ih_parfill.specs.Starts.{started}
+use Rattle.ih_fill.specs.Starts.{started}
 use Rattle.ih_top.specs.Salvage.{IsSalvage, SalvageEnds}
 use Rattle.ih_top.specs.Texts.{done_text, journal_refused_text, salvaged_text}
 use Rattle.ih_top.proofs.Accepted.{journal-accepted, not-headless, same-search}

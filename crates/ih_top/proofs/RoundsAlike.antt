@@ -13,7 +13,8 @@ use Rattle.ih_shelf.specs.Outside.{Names}
 use Rattle.ih_answers.specs.declared.status.Status.{Status}
 use Rattle.ih_answers.specs.declared.status.Status.TheVariants.{Done, NoneFound, OutOfMemory}
 use Rattle.ih_top.specs.Inputs.{solve_inputs}
-use Rattle.ih_top.specs.Laws.{EndTheSame, HasNoFault, LoneRoundsEndAlike}
+use Rattle.ih_frame.specs.Ends.{HasNoFault}
+use Rattle.ih_top.specs.Laws.{EndTheSame, LoneRoundsEndAlike}
 use Rattle.ih_top.specs.Rounds.{AreDone, HaveFoundNone, RoundsEnds, round_text, solution_in}
 use Rattle.ih_answers.specs.Texts.{none_found_text}
 use Rattle.ih_top.proofs.Alike.{rounds-alike}
@@ -59,7 +60,7 @@ rounds-end : (r : RoundsCall) (old new : Names) (status : Status) (text : List �
     → IsEnd (AreDone r (Some old) (Some new) text) (HaveFoundNone r (Some old) (Some new) × (text ≡ none_found_text))
     (solve_inputs r.search) old new status text
 rounds-end r old new status text calm room h =
-    end-of _ _ (solve_inputs r.search) old new status text calm room (rounds-faultless r (Some old) (Some new) status text calm h)
+    end-of _ _ r.search.instance r.search.start.file old new status text calm room (rounds-faultless r (Some old) (Some new) status text calm h)
 
 -- ---- two ends
 

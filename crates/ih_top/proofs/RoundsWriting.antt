@@ -1,109 +1,52 @@
--- What the two writes of rounds leave.
-use Rattle.std.proofs.Common.{◌≡◌, ℕ, ◌∙◌, subst, List, Option, Some, None}
-use Rattle.std.specs.Prelude.{Result, IfOk}
+-- How a call of rounds ends of which this is left.
+use Rattle.std.proofs.Common.{◌≡◌, ℕ, subst, List, Option, Some, None}
+use Rattle.std.specs.Prelude.{◌≢◌}
 use Rattle.ih_journal.specs.Base.{Base}
 use Rattle.ih_shelf.specs.Outside.{Names, IfTold}
 use Rattle.ih_rounds.specs.Rounds.{journals}
 use Rattle.ih_words.specs.Rounds.{RoundsCall}
 use Rattle.ih_words.specs.Solve.{SolveCall}
-use Rattle.ih_answers.specs.declared.answer.Answer.{Answer}
 use Rattle.ih_top.specs.declared.output.BestOutput.{BestOutput}
 use Rattle.ih_top.specs.declared.output.Output.{Output}
 use Rattle.ih_answers.specs.declared.status.Status.{Status}
-use Rattle.ih_answers.specs.Answers.{Answers}
-use Rattle.ih_top.specs.Outputs.{MadeEnds, OutputEnds, WritesOutput}
+use Rattle.ih_frame.specs.Outcomes.{IsLeft}
+use Rattle.ih_top.specs.Outputs.{search_outcome}
 use Rattle.ih_top.specs.Searches.{HasBase}
-use Rattle.ih_top.specs.Rounds.{AreDone, AreSearches, HasBestOfRounds, HaveBegun, HaveFound, HaveFoundNone, HaveBest, HaveSearched, IsBestOfRounds, IsRoundsOutput, IsRoundsOutputOf, RoundsEnds, solution_in}
+use Rattle.ih_top.specs.Rounds.{AreDone, AreSearches, HasBestOfRounds, HaveBegun, HaveFound, HaveFoundNone, HaveBest, HaveSearched, IsBestOfRounds, IsRoundsOutput, RoundsEnds}
 use Rattle.ih_top.specs.Writes.{BeginsJournal, BeginsSolution, WritesBoth, WritesJournal}
-use Rattle.ih_top.proofs.Writing.{both-begun, journal-whole-begun, made-writing, writing-ends}
-use Rattle.ih_answers.proofs.Files.{told-weaker}
+use Rattle.ih_top.proofs.Writing.{best-left, none-left}
 
--- ---- weaker ends
+module _ (r : RoundsCall) (o : Output) (old new : Option Names) (b : Base) (given : HasBase old r.search b) (is : IsRoundsOutput b r.rounds o) where
+  searched : AreSearches old r b is.rounds
+  searched = record { base = given; given = is.given; seed = is.seed; count = is.count_is; legal = is.legal; exact = is.exact }
 
-pub rounds-done-found : (r : RoundsCall) (old new : Option Names) → HaveBest WritesBoth r old new → HaveFound r old new
-rounds-done-found r old new h = record {
-  base = h.base;
-  rounds = h.rounds;
-  round = h.round;
-  place = h.place;
-  searches = h.searches;
-  best = h.best;
-  written = told-weaker (WritesBoth r.search (journals h.base.options 0 h.rounds) (solution_in h.base h.round h.best.round h.place))
-      (BeginsSolution r.search (journals h.base.options 0 h.rounds) (solution_in h.base h.round h.best.round h.place)) old new
-      (both-begun r.search (journals h.base.options 0 h.rounds) (solution_in h.base h.round h.best.round h.place)) h.written;
-}
-
-pub rounds-none-begun : (r : RoundsCall) (old new : Option Names) → HaveSearched WritesJournal r old new → HaveBegun r old new
-rounds-none-begun r old new h = record {
-  base = h.base;
-  rounds = h.rounds;
-  searches = h.searches;
-  written = told-weaker (WritesJournal r.search (journals h.base.options 0 h.rounds)) (BeginsJournal r.search (journals h.base.options 0 h.rounds)) old new
-      (journal-whole-begun r.search (journals h.base.options 0 h.rounds)) h.written;
-}
-
--- ---- where rounds made it
-
-module _ (r : RoundsCall) (o : Output) (old new : Option Names) (is : IsRoundsOutputOf old r o) where
-  abbrev text_of : List ℕ
-  text_of = journals is.base.options 0 is.output.rounds
-
-  searched : AreSearches old r is.base is.output.rounds
-  searched = record {
-    base = is.given;
-    given = is.output.given;
-    seed = is.output.seed;
-    count = is.output.count_is;
-    legal = is.output.legal;
-    exact = is.output.exact;
-  }
-
-  rounds-begun : IfTold (BeginsJournal r.search o.journal.items) old new → HaveBegun r old new
-  rounds-begun written = record {
-    base = is.base;
-    rounds = is.output.rounds;
+  abbrev journals-written : (writes : SolveCall → List ℕ → Names → Names → Type 0) → IfTold (writes r.search o.journal.items) old new
+      → HaveSearched writes r old new
+  journals-written writes written = record {
+    base = b;
+    rounds = is.rounds;
     searches = searched;
-    written = subst (λ j. IfTold (BeginsJournal r.search j) old new) is.output.journal written;
+    written = subst (λ j. IfTold (writes r.search j) old new) is.journal written;
   }
 
-  rounds-none : o.best ≡ None → IfTold (WritesJournal r.search o.journal.items) old new → HaveFoundNone r old new
-  rounds-none none written = (
-    record {
-      base = is.base;
-      rounds = is.output.rounds;
-      searches = searched;
-      written = subst (λ j. IfTold (WritesJournal r.search j) old new) is.output.journal written;
-    },
-    subst (HasBestOfRounds is.base is.output.rounds) none is.output.best,
-  )
+  abbrev best-written : (writes : SolveCall → List ℕ → List ℕ → Names → Names → Type 0) (best : BestOutput) → IsBestOfRounds b is.rounds best
+      → IfTold (writes r.search o.journal.items best.solution.items) old new → HaveBest writes r old new
+  best-written writes best said written = record {
+    base = b;
+    rounds = is.rounds;
+    round = said.round;
+    place = said.place;
+    searches = searched;
+    best = said.best;
+    written = subst (λ x. IfTold (writes r.search (journals b.options 0 is.rounds) x) old new) said.solution
+        (subst (λ j. IfTold (writes r.search j best.solution.items) old new) is.journal written);
+  }
 
-  abbrev of-best : (best : BestOutput) → o.best ≡ Some best → IsBestOfRounds is.base is.output.rounds best
-  of-best best some = subst (HasBestOfRounds is.base is.output.rounds) some is.output.best
-
-  abbrev rounds-written : (writes : SolveCall → List ℕ → List ℕ → Names → Names → Type 0) → WritesOutput writes r.search o old new
-      → HaveBest writes r old new
-  rounds-written writes w =
-      let best = of-best w.best w.is in
-      record {
-        base = is.base;
-        rounds = is.output.rounds;
-        round = best.round;
-        place = best.place;
-        searches = searched;
-        best = best.best;
-        written = subst (λ x. IfTold (writes r.search text_of x) old new) best.solution
-            (subst (λ j. IfTold (writes r.search j w.best.solution.items) old new) is.output.journal w.written);
-      }
-
-  rounds-done : (w : WritesOutput WritesBoth r.search o old new) (text : List ℕ) → text ≡ w.best.text.items → AreDone r old new text
-  rounds-done w text said = (rounds-written WritesBoth w, said ∙ (of-best w.best w.is).text)
-
-  pub rounds-ends : (status : Status) (text : List ℕ) → OutputEnds r.search o old new status text → RoundsEnds r old new status text
-  rounds-ends = writing-ends _ _ _ (λ text. AreDone r old new text) r.search old new o rounds-done rounds-none rounds-begun (rounds-written BeginsSolution)
-
--- what rounds made, or that memory ran out as it was made, is the end of the call that asked for them
-pub made-rounds : {E : Type 0} (r : RoundsCall) (made : Result Output E) (old new : Option Names) (b : Base) → HasBase old r.search b
-    → IfOk made (IsRoundsOutput b r.rounds) → (a : Answer) → Answers (MadeEnds r.search made old new) a → Answers (RoundsEnds r old new) a
-made-rounds r made old new b given output =
-    made-writing _ _ _ (λ text. AreDone r old new text) r.search old new (IsRoundsOutput b r.rounds)
-    (λ o is. rounds-ends r o old new (record { base = b; given = given; output = is })) made output
+  pub rounds-left : r.search.out ≢ r.search.journal → (best : Option BestOutput) → HasBestOfRounds b is.rounds best → (status : Status) (text : List ℕ)
+      → IsLeft (search_outcome r.search o.journal.items best) old new status text → RoundsEnds r old new status text
+  rounds-left differ None no-best =
+      none-left (HaveBegun r old new) (HaveFoundNone r old new) (HaveFound r old new) (λ text. AreDone r old new text) r.search old new differ o.journal.items
+      (journals-written BeginsJournal) (λ told. (journals-written WritesJournal told, no-best))
+  rounds-left differ (Some best) said =
+      best-left (HaveBegun r old new) (HaveFoundNone r old new) (HaveFound r old new) (λ text. AreDone r old new text) r.search old new differ o.journal.items
+      (journals-written BeginsJournal) best (best-written BeginsSolution best said) (λ told. (best-written WritesBoth best said told, said.text))

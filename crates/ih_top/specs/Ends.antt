@@ -1,7 +1,5 @@
 -- How a call of the program ends: what it then has read, written and said, by its status.
 use Rattle.std.specs.Prelude.{◌≡◌, ℕ, ◌⊎◌, List, Option, Some, None}
-use Rattle.ih_tables.specs.declared.drafts.Draft.{Draft}
-use Rattle.ih_plan.specs.Timetable.{Timetable}
 use Rattle.ih_journal.specs.declared.entries.Entry.{Entry}
 use Rattle.ih_journal.specs.Base.{Base}
 use Rattle.ih_journal.specs.Tried.{tries}
@@ -11,17 +9,18 @@ use Rattle.ih_words.specs.Words.{Call, solve, replay, salvage, check, chain, rou
 use Rattle.ih_shelf.specs.Outside.{Names, IfTold}
 use Rattle.ih_answers.specs.declared.status.Status.{Status}
 use Rattle.ih_answers.specs.declared.status.Status.TheVariants.{Done, Usage, NoneFound, OutOfMemory, Infeasible}
-use Rattle.ih_top.specs.Advise.{AdviseEnds, advise_inputs}
+use Rattle.ih_top.specs.Advise.{IsAdvised}
 use Rattle.ih_answers.specs.Ends.{Ends, Unchanged}
-use Rattle.ih_inputs.specs.Reading.{HasInputs}
-use Rattle.ih_top.specs.Inputs.{solve_inputs, check_inputs}
+use Rattle.ih_inputs.specs.Reading.{Given, HasGiven, InputFiles}
+use Rattle.ih_frame.specs.Ends.{CommandEnds}
+use Rattle.ih_top.specs.Inputs.{advise_inputs, check_inputs, solve_inputs}
 use Rattle.ih_top.specs.Solve.{SolveEnds}
 use Rattle.ih_top.specs.JournalFiles.{HasRead, JournalRead}
 use Rattle.ih_top.specs.JournalHeading.{IsHeadedBy}
 use Rattle.ih_top.specs.Replay.{ReplayEnds}
 use Rattle.ih_top.specs.Salvage.{SalvageEnds}
 use Rattle.ih_top.specs.Chain.{ChainEnds}
-use Rattle.ih_top.specs.Check.{CheckEnds}
+use Rattle.ih_top.specs.Check.{IsChecked}
 use Rattle.ih_top.specs.Rounds.{RoundsEnds}
 use Rattle.ih_top.specs.Generate.{GenEnds}
 use Rattle.ih_top.specs.Demo.{DemoEnds}
@@ -36,10 +35,10 @@ abbrev pub CallEnds : Call → Option Names → Option Names → Status → List
 CallEnds (solve s) old new status text = SolveEnds s old new status text
 CallEnds (replay r) old new status text = ReplayEnds r old new status text
 CallEnds (salvage r) old new status text = SalvageEnds r old new status text
-CallEnds (check c) old new status text = IfTold Unchanged old new × CheckEnds c old status text
+CallEnds (check c) old new status text = CommandEnds IsChecked (check_inputs c) old new status text
 CallEnds (chain c) old new status text = ChainEnds c old new status text
 CallEnds (rounds r) old new status text = RoundsEnds r old new status text
-CallEnds (advise a) old new status text = IfTold Unchanged old new × AdviseEnds a old status text
+CallEnds (advise a) old new status text = CommandEnds (IsAdvised a) (advise_inputs a) old new status text
 CallEnds (gen g) old new status text = GenEnds g old new status text
 CallEnds (demo number) old new status text = IfTold Unchanged old new × DemoEnds number status text
 
@@ -75,18 +74,22 @@ IsAnswered (advise a) status = (status ≡ Done) ⊎ (status ≡ OutOfMemory)
 IsAnswered (gen g) status = (status ≡ Done) ⊎ (status ≡ OutOfMemory)
 IsAnswered (demo number) status = (status ≡ Done) ⊎ (status ≡ NoneFound) ⊎ (status ≡ OutOfMemory)
 
+-- files are named so, and all of them are accepted
+abbrev pub AreGiven : InputFiles → Names → Type 0
+AreGiven r files = (g : Given) × HasGiven (Some files) r g
+
 -- The files that a call reads are as they ought to be: the journal of replay is that of a full history, and that of
 -- salvage has its heading. A gen and a demo read none.
 abbrev pub HasFiles : Call → Names → Type 0
-HasFiles (solve s) files = (I : Draft) × (P : Timetable) × HasInputs (Some files) (solve_inputs s) I P
+HasFiles (solve s) files = AreGiven (solve_inputs s) files
 HasFiles (replay r) files = (x : JournalRead) × (b : Base) × (H : List Entry) × HasRead (Some files) r x
     × IsHeadedBy r.start x b (lines_from b.options 0 H) × IsFull b 1 (tries H)
 HasFiles (salvage r) files =
     (x : JournalRead) × (b : Base) × (bytes : List ℕ) × HasRead (Some files) r x × IsHeadedBy r.start x b bytes
-HasFiles (check c) files = (I : Draft) × (P : Timetable) × HasInputs (Some files) (check_inputs c) I P
-HasFiles (chain c) files = (I : Draft) × (P : Timetable) × HasInputs (Some files) (solve_inputs c.search) I P
-HasFiles (rounds r) files = (I : Draft) × (P : Timetable) × HasInputs (Some files) (solve_inputs r.search) I P
-HasFiles (advise a) files = (I : Draft) × (P : Timetable) × HasInputs (Some files) (advise_inputs a) I P
+HasFiles (check c) files = AreGiven (check_inputs c) files
+HasFiles (chain c) files = AreGiven (solve_inputs c.search) files
+HasFiles (rounds r) files = AreGiven (solve_inputs r.search) files
+HasFiles (advise a) files = AreGiven (advise_inputs a) files
 HasFiles (gen g) files = Unit {0}
 HasFiles (demo number) files = Unit {0}
 

@@ -2,7 +2,7 @@
 -- its status.
 use Rattle.std.specs.Prelude.{◌≡◌, ℕ, ◌⊎◌, List, Option, Some, None}
 use Rattle.ih_journal.specs.declared.entries.Entry.{Entry}
-use Rattle.ih_journal.specs.declared.refusals.JournalRefusal.{JournalRefusal}
+use Rattle.ih_tables.specs.declared.journal_refusals.JournalRefusal.{JournalRefusal}
 use Rattle.ih_journal.specs.Base.{Base}
 use Rattle.ih_journal.specs.Tried.{Tried, tries}
 use Rattle.ih_journal.specs.Best.{IsBest, HasNone}
@@ -13,9 +13,11 @@ use Rattle.ih_answers.specs.declared.status.Status.TheVariants.{Done, NoneFound,
 use Rattle.ih_answers.specs.declared.status.Role.TheVariants.{Out}
 use Rattle.ih_top.specs.Searches.{solution_at}
 use Rattle.ih_answers.specs.Ends.{Unchanged}
+use Rattle.ih_answers.specs.Inputs.{EndsUnread}
 use Rattle.ih_answers.specs.Texts.{memory_text, unwritten_text, none_found_text}
 use Rattle.ih_top.specs.Texts.{journal_refused_text}
-use Rattle.ih_top.specs.JournalFiles.{JournalRead, HasRead, EndsUnreadJournal}
+use Rattle.ih_top.specs.Inputs.{replay_inputs}
+use Rattle.ih_top.specs.JournalFiles.{JournalRead, HasRead}
 
 -- A history was taken from the journal, and the solution of its first cheapest feasible timetable is written as far as
 -- `writes` says.
@@ -68,4 +70,4 @@ JournalEnds taken refused said r old new (WriteFault None) text =
 JournalEnds taken refused said r old new OutOfMemory text =
     (IfTold Unchanged old new ⊎ HasBest taken MayBeWritten r old new) × (text ≡ memory_text)
 -- the files aren't as they ought to be
-JournalEnds taken refused said r old new status text = IfTold Unchanged old new × EndsUnreadJournal old r status text
+JournalEnds taken refused said r old new status text = IfTold Unchanged old new × EndsUnread old (replay_inputs r) status text

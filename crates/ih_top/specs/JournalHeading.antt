@@ -1,13 +1,13 @@
 -- What a journal is headed by: the options of a search.
 use Rattle.std.specs.Prelude.{◌≡◌, ℕ, ◌<◌, ◌^◌, List, ◌++◌}
-use Rattle.ih_journal.specs.declared.refusals.JournalRefusal.{JournalRefusal}
-use Rattle.ih_journal.specs.declared.refusals.Reason.TheVariants.{Heading}
+use Rattle.ih_tables.specs.declared.journal_refusals.JournalRefusal.{JournalRefusal}
+use Rattle.ih_tables.specs.declared.journal_refusals.Reason.TheVariants.{Heading}
 use Rattle.ih_journal.specs.declared.settings.Options.{Options}
 use Rattle.ih_journal.specs.Base.{Base}
 use Rattle.ih_journal.specs.Settings.{IsLawful}
 use Rattle.ih_journal.specs.Texts.{ended, heading}
 use Rattle.ih_plan.specs.Timetable.{IsPlanOf}
-use Rattle.ih_words.specs.Start.{StartCall}
+use Rattle.ih_arguments.specs.Start.{StartCall}
 use Rattle.ih_top.specs.declared.journal_heading.Headed.{Headed}
 use Rattle.ih_top.specs.Starts.{IsStarted}
 use Rattle.ih_top.specs.JournalFiles.{JournalRead}

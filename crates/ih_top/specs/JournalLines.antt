@@ -1,9 +1,9 @@
 -- What a journal's bytes still tell, and why they are refused as a whole journal.
 use Rattle.std.specs.Prelude.{◌≡◌, ◌≢◌, ◌==◌, ℕ, ◌+◌, ◌⊎◌, false, List, [], ◌++◌, All, length}
 use Rattle.ih_journal.specs.declared.entries.Entry.{Entry}
-use Rattle.ih_journal.specs.declared.refusals.JournalRefusal.{JournalRefusal}
-use Rattle.ih_journal.specs.declared.refusals.Reason.{Reason}
-use Rattle.ih_journal.specs.declared.refusals.Reason.TheVariants.{Extra, Grammar, Early}
+use Rattle.ih_tables.specs.declared.journal_refusals.JournalRefusal.{JournalRefusal}
+use Rattle.ih_tables.specs.declared.journal_refusals.Reason.{Reason}
+use Rattle.ih_tables.specs.declared.journal_refusals.Reason.TheVariants.{Extra, Grammar, Early}
 use Rattle.ih_journal.specs.Base.{Base}
 use Rattle.ih_journal.specs.Tried.{tries}
 use Rattle.ih_journal.specs.Legal.{AreLegal, IsFull}

@@ -3,8 +3,8 @@ use Rattle.std.specs.Prelude.{◌≡◌, ◌≢◌, ◌≤◌, ◌+◌, ◌==◌
 use Rattle.std.specs.List.{count_by}
 use Rattle.ih_tables.specs.Valid.{IsValid}
 use Rattle.ih_journal.specs.declared.entries.Entry.{Entry}
-use Rattle.ih_journal.specs.declared.refusals.JournalRefusal.{JournalRefusal}
-use Rattle.ih_journal.specs.declared.refusals.Reason.TheVariants.{Extra}
+use Rattle.ih_tables.specs.declared.journal_refusals.JournalRefusal.{JournalRefusal}
+use Rattle.ih_tables.specs.declared.journal_refusals.Reason.TheVariants.{Extra}
 use Rattle.ih_journal.specs.declared.settings.Options.{Options}
 use Rattle.ih_journal.specs.Base.{Base}
 use Rattle.ih_journal.specs.Best.{HasNone, IsBest}
@@ -21,12 +21,13 @@ use Rattle.ih_words.specs.Rounds.{RoundsCall}
 use Rattle.ih_words.specs.Solve.{SolveCall}
 use Rattle.ih_words.specs.Words.{IsNamed, chain, rounds}
 use Rattle.ih_shelf.specs.Outside.{Names, bytes_at}
-use Rattle.ih_top.specs.declared.limits.TheConstants.{MAX_JOURNAL}
+use Rattle.ih_inputs.specs.declared.reading.TheConstants.{MAX_JOURNAL}
 use Rattle.ih_answers.specs.declared.status.Status.{Status}
-use Rattle.ih_answers.specs.declared.status.Status.TheVariants.{Done, JournalRefused, NoneFound, OutOfMemory, ReadFault, WriteFault}
+use Rattle.ih_answers.specs.declared.status.Status.TheVariants.{Done, JournalRefused, NoneFound, OutOfMemory}
+use Rattle.ih_frame.specs.Ends.{HasNoFault}
 use Rattle.ih_top.specs.Chain.{of_chains}
 use Rattle.ih_top.specs.Demo.{IsShown}
-use Rattle.ih_top.specs.JournalFiles.{HasGiven}
+use Rattle.ih_top.specs.JournalFiles.{HasStartGiven}
 use Rattle.ih_top.specs.JournalLines.{Begins, IsRefusedAt}
 use Rattle.ih_top.specs.JournalHeading.{HasNoHeading, no_heading}
 use Rattle.ih_top.specs.Replay.{AreNotFull, ReplayEnds}
@@ -48,12 +49,6 @@ abbrev pub WholeLinesAreSalvaged : Type 0
 WholeLinesAreSalvaged = (b : Base) (G : List Entry) (bytes more : List ℕ) (H : List Entry) (rest : List ℕ)
     → IsValid b.instance → IsBase b → AreLegal b 1 (tries G)
     → bytes ++ more ≡ lines_from b.options 0 G → Begins b bytes H rest → length H ≡ count_by (λ c. c == 10) bytes
-
--- no fault brought the status
-abbrev pub HasNoFault : Status → Type 0
-HasNoFault (ReadFault role) = ⊥
-HasNoFault (WriteFault role) = ⊥
-HasNoFault status = Unit {0}
 
 -- ---- searches of one worker
 
@@ -219,7 +214,7 @@ abbrev pub ChainsAreRefused : Type 0
 ChainsAreRefused = (c : ChainCall) (r : ReplayCall) (before after there left : Names) (b : Base) (H : List ChainEntry)
     (ended : Status) (said : List ℕ)
     → IsNamed (chain c) → HasLeft (of_chains c.length) c.search before after b H
-    → HasGiven (Some there) r → bytes_at there r.journal ≡ bytes_at after c.search.journal → HasNoFault ended
+    → HasStartGiven (Some there) r → bytes_at there r.journal ≡ bytes_at after c.search.journal → HasNoFault ended
     → IsRefusedBack r there left ended said
 
 -- ---- journals of rounds

@@ -6,12 +6,14 @@ use Rattle.ih_journal.specs.Base.{Base}
 use Rattle.ih_journal.specs.Settings.{most_entries}
 use Rattle.ih_words.specs.Solve.{SolveCall}
 use Rattle.ih_shelf.specs.Outside.{Names}
+use Rattle.ih_inputs.specs.Reading.{Given}
+use Rattle.ih_frame.specs.Outcomes.{OutcomeState}
 use Rattle.ih_top.specs.declared.output.Output.{Output}
 use Rattle.ih_top.specs.declared.searching.Method.{Method}
 use Rattle.ih_top.specs.declared.searching.Method.TheVariants.{Moves, Chains, Rounds}
 use Rattle.ih_answers.specs.declared.status.Status.{Status}
 use Rattle.ih_top.specs.Chain.{ChainEnds, of_chains}
-use Rattle.ih_top.specs.Outputs.{IsOutput}
+use Rattle.ih_top.specs.Outputs.{IsOutput, base_from, search_outcome}
 use Rattle.ih_top.specs.Rounds.{IsRoundsOutput, RoundsEnds}
 use Rattle.ih_top.specs.Solve.{SolveEnds, of_moves}
 
@@ -27,6 +29,12 @@ abbrev pub IsMade : Method → Base → Output → Type 0
 IsMade Moves b o = IsOutput of_moves b o
 IsMade (Chains each) b o = IsOutput (of_chains each) b o
 IsMade (Rounds count) b o = IsRoundsOutput b count o
+
+-- what a call comes to that searches so: what its search makes is written and said
+pub record IsSearched (method : Method) (s : SolveCall) (g : Given) (o : OutcomeState) : Type 0 where
+  pub output : Output
+  pub made : IsMade method (base_from s g) output
+  pub left : o ≡ search_outcome s output.journal.items output.best
 
 -- how the call ends
 abbrev pub MethodEnds : Method → SolveCall → Option Names → Option Names → Status → List ℕ → Type 0

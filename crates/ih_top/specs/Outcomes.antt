@@ -1,24 +1,22 @@
--- What a journal comes to, before it is written and said.
-use Rattle.std.specs.Prelude.{◌≡◌, ℕ, ◌⊎◌, List, Option, Some, None}
+-- What a journal comes to, and what is written and said of that.
+use Rattle.std.specs.Prelude.{◌≡◌, ℕ, List, Option, Some, None}
 use Rattle.ih_journal.specs.declared.entries.Entry.{Entry}
-use Rattle.ih_journal.specs.declared.refusals.JournalRefusal.{JournalRefusal}
+use Rattle.ih_tables.specs.declared.journal_refusals.JournalRefusal.{JournalRefusal}
 use Rattle.ih_journal.specs.Base.{Base}
 use Rattle.ih_journal.specs.Tried.{Tried, tries}
 use Rattle.ih_journal.specs.Legal.{IsFull}
 use Rattle.ih_journal.specs.Texts.{lines_from}
-use Rattle.ih_shelf.specs.Outside.{IsWritten, MayBeWritten, Names, IfTold}
 use Rattle.ih_top.specs.declared.output.BestOutput.{BestOutput}
-use Rattle.ih_top.specs.declared.outcome.Outcome.{Outcome}
-use Rattle.ih_top.specs.declared.outcome.Outcome.TheVariants.{Refused, Taken}
-use Rattle.ih_answers.specs.declared.status.Status.{Status}
-use Rattle.ih_answers.specs.declared.status.Status.TheVariants.{Done, NoneFound, WriteFault, OutOfMemory, JournalRefused}
+use Rattle.ih_top.specs.declared.outcome.JournalOutcome.{JournalOutcome}
+use Rattle.ih_top.specs.declared.outcome.JournalOutcome.TheVariants.{Refused, Taken}
+use Rattle.ih_frame.specs.Outcomes.{OutcomeState, says, writes_one}
+use Rattle.ih_answers.specs.declared.status.Status.TheVariants.{NoneFound, JournalRefused}
 use Rattle.ih_answers.specs.declared.status.Role.TheVariants.{Out}
 use Rattle.ih_top.specs.Histories.{IsSound}
 use Rattle.ih_top.specs.JournalLines.{Begins, IsRefusedAt}
 use Rattle.ih_top.specs.Outputs.{HasBestOutput, HasBestSaid}
 use Rattle.ih_top.specs.Replay.{AreNotFull}
-use Rattle.ih_answers.specs.Ends.{Unchanged}
-use Rattle.ih_answers.specs.Texts.{memory_text, unwritten_text, none_found_text}
+use Rattle.ih_answers.specs.Texts.{none_found_text}
 use Rattle.ih_top.specs.Texts.{journal_refused_text, salvaged_text}
 
 -- ---- the lines of a journal
@@ -46,7 +44,7 @@ pub record AreRefusedLines (b : Base) (bytes : List ℕ) (e : JournalRefusal) : 
   pub none : AreNotFull b bytes
 
 -- what the lines behind a heading come to, where they have to be those of a full history
-abbrev pub IsLinesOutcome : Base → List ℕ → Outcome → Type 0
+abbrev pub IsLinesOutcome : Base → List ℕ → JournalOutcome → Type 0
 IsLinesOutcome b bytes (Refused e) = AreRefusedLines b bytes e
 IsLinesOutcome b bytes (Taken best) = AreFullLines b bytes best
 
@@ -61,28 +59,14 @@ pub record IsTaken (taken : Base → List Entry → Type 0) (said : Base → Lis
   pub output : HasBestSaid said base (tries history) best
 
 abbrev pub IsOutcome : (Base → List Entry → Type 0) → (JournalRefusal → Type 0) → (Base → List Tried → ℕ → List ℕ)
-    → Outcome → Type 0
+    → JournalOutcome → Type 0
 IsOutcome taken refused said (Refused e) = refused e
 IsOutcome taken refused said (Taken best) = IsTaken taken said best
 
--- ---- what is written
+-- ---- what is written and said
 
--- the solution of the outcome's best is written as far as `writes` says
-pub record WritesBest (writes : List ℕ → List ℕ → Names → Names → Type 0) (o : Outcome) (out : List ℕ)
-    (old new : Option Names) : Type 0 where
-  pub best : BestOutput
-  pub is : o ≡ Taken (Some best)
-  pub written : IfTold (writes out best.solution.items) old new
-
--- how a call ends that has this outcome, and writes its best under a name
-abbrev pub OutcomeEnds : Outcome → List ℕ → Option Names → Option Names → Status → List ℕ → Type 0
-OutcomeEnds o out old new Done text = (w : WritesBest IsWritten o out old new) × (text ≡ w.best.text.items)
-OutcomeEnds o out old new NoneFound text = IfTold Unchanged old new × (o ≡ Taken None) × (text ≡ none_found_text)
-OutcomeEnds o out old new (JournalRefused e) text =
-    IfTold Unchanged old new × (o ≡ Refused e) × (text ≡ journal_refused_text e)
-OutcomeEnds o out old new (WriteFault (Some Out)) text =
-    WritesBest MayBeWritten o out old new × (text ≡ unwritten_text out)
-OutcomeEnds o out old new (WriteFault None) text = (w : WritesBest IsWritten o out old new) × (text ≡ w.best.text.items)
-OutcomeEnds o out old new OutOfMemory text =
-    (IfTold Unchanged old new ⊎ WritesBest MayBeWritten o out old new) × (text ≡ memory_text)
-OutcomeEnds o out old new status text = ⊥
+-- the solution of the best is written, where there is one
+abbrev pub journal_outcome : List ℕ → JournalOutcome → OutcomeState
+journal_outcome out (Refused e) = says (JournalRefused e) (journal_refused_text e)
+journal_outcome out (Taken None) = says NoneFound none_found_text
+journal_outcome out (Taken (Some best)) = writes_one Out out best.solution.items best.text.items

@@ -66,12 +66,6 @@ pub record IsRoundsOutput (b : Base) (count : ℕ) (o : Output) : Type 0 where
   pub journal : o.journal.items ≡ journals b.options 0 rounds
   pub best : HasBestOfRounds b rounds o.best
 
--- what rounds make from what the files and the words give
-pub record IsRoundsOutputOf (files : Option Names) (r : RoundsCall) (o : Output) : Type 0 where
-  pub base : Base
-  pub given : HasBase files r.search base
-  pub output : IsRoundsOutput base r.rounds o
-
 -- ---- how they end
 
 -- The rounds that the words ask for, over what the files and the words give: each history is full over its start, and

@@ -4,7 +4,7 @@ use Rattle.ih_journal.specs.declared.entries.Entry.{Entry}
 use Rattle.ih_journal.specs.Base.{Base}
 use Rattle.ih_journal.specs.Tried.{tries}
 use Rattle.ih_words.specs.Replay.{ReplayCall}
-use Rattle.ih_words.specs.Start.{StartCall}
+use Rattle.ih_arguments.specs.Start.{StartCall}
 use Rattle.ih_shelf.specs.Outside.{Names}
 use Rattle.ih_answers.specs.declared.status.Status.{Status}
 use Rattle.ih_top.specs.Histories.{IsSound}

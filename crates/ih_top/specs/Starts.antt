@@ -3,11 +3,10 @@ use Rattle.std.specs.Prelude.{◌≡◌, ℕ, List, Option}
 use Rattle.ih_tables.specs.declared.drafts.Draft.{Draft}
 use Rattle.ih_plan.specs.Timetable.{Timetable}
 use Rattle.ih_journal.specs.Base.{Base}
-use Rattle.ih_words.specs.Start.{StartCall}
+use Rattle.ih_arguments.specs.Start.{StartCall}
 use Rattle.ih_shelf.specs.Outside.{Names}
-use Rattle.ih_inputs.specs.Reading.{HasInputs}
-use Rattle.ih_parfill.specs.Starts.{started}
-use Rattle.ih_top.specs.Inputs.{start_inputs}
+use Rattle.ih_inputs.specs.Reading.{HasInputs, two_files}
+use Rattle.ih_fill.specs.Starts.{started}
 
 -- A search begins as the words say, on an instance and with a timetable that was read. The fill takes the weight of a
 -- broken rule from the options.
@@ -19,5 +18,5 @@ pub record IsStarted (s : StartCall) (I : Draft) (P : Timetable) (b : Base) : Ty
 -- what the files and the words give a search, but for its options
 pub record HasStart (files : Option Names) (instance : List ℕ) (s : StartCall) (b : Base) : Type 0 where
   pub plan : Timetable
-  pub inputs : HasInputs files (start_inputs instance s) b.instance plan
+  pub inputs : HasInputs files (two_files instance s.file) b.instance plan
   pub started : IsStarted s b.instance plan b

@@ -9,9 +9,9 @@ use Rattle.ih_validate.specs.Report.{report}
 use Rattle.ih_journal.specs.declared.entries.Entry.{Entry}
 use Rattle.ih_journal.specs.declared.entries.Verdict.{Verdict as AnyVerdict}
 use Rattle.ih_journal.specs.declared.entries.Verdict.TheVariants.{Declined}
-use Rattle.ih_journal.specs.declared.refusals.JournalRefusal.{JournalRefusal}
-use Rattle.ih_journal.specs.declared.refusals.Reason.{Reason}
-use Rattle.ih_journal.specs.declared.refusals.Reason.TheVariants.{Heading, Extra, Grammar, Place, Worker, Number, Try, Seen, Move, Price, Verdict, Early}
+use Rattle.ih_tables.specs.declared.journal_refusals.JournalRefusal.{JournalRefusal}
+use Rattle.ih_tables.specs.declared.journal_refusals.Reason.{Reason}
+use Rattle.ih_tables.specs.declared.journal_refusals.Reason.TheVariants.{Heading, Extra, Grammar, Place, Worker, Number, Try, Seen, Move, Price, Verdict, Early}
 use Rattle.ih_journal.specs.Attempts.{is_stale}
 use Rattle.ih_journal.specs.Base.{Base}
 use Rattle.ih_journal.specs.Tried.{Tried, tries}

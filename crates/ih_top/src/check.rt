@@ -1,50 +1,63 @@
-//! The command `check`, but for the putting out of its report.
+//! The command `check`: what it comes to.
 
 ghost use Rattle.std.specs.Prelude.{◌≡◌};
-ghost use Rattle.ih_plan.specs.{Timetable.IsPlanOf, BillOf.bill_of};
-ghost use Rattle.ih_tables.specs.Bills.{feasible};
-ghost use Rattle.ih_validate.specs.Report.{report};
 ghost use Rattle.ih_words.specs.Check.{check_call};
-ghost use Rattle.ih_answers.specs.Answers.{Answers, HasShelfCause, IsSaid};
-ghost use Rattle.ih_top.specs.Check.{checked_status};
-ghost use Rattle.ih_top.specs.{Check.CheckEnds};
+ghost use Rattle.ih_frame.specs.Outcomes.{IsOwnStatus};
+ghost use Rattle.ih_top.specs.{Check.IsChecked, Check.checked_status, Inputs.check_inputs};
 
-use ih_answers::{Answer, Status, out_of_memory, read_or_answer};
-use ih_inputs::Inputs;
-use ih_shelf::Shelf;
+use ih_answers::Status;
+use ih_frame::{Command, Outcome};
+use ih_inputs::{InputNames, Inputs};
 use ih_validate::{bill, report};
 use ih_words::Check;
-use std::alloc::Global;
-use std::rt::Files;
+use std::alloc::{AllocError, Global};
+use std::sync::Wait;
+use std::thread::Threads;
 
-// The report on the timetable, and whether it breaks a hard rule.
-fn checked(alloc: Global, inputs: &Inputs) -> Answer
-    requires { IsPlanOf inputs.now.inst.value.draft inputs.now.plan }
-    ensures { IsSaid (checked_status (feasible (bill_of inputs.now.inst.value.draft inputs.now.plan)))
-        (report inputs.now.inst.value.draft.weights (bill_of inputs.now.inst.value.draft inputs.now.plan)) result }
+/// A call of `check`.
+#[derive(Drop)]
+pub struct Checking<'c, 'w> {
+    pub call: &'c Check<'w>,
+}
+
+// The status by whether no hard rule is broken.
+fn checked_status(is_feasible: bool) -> Status
+    ensures value { result ≡ checked_status is_feasible }
+    ensures own { IsOwnStatus result }
 {
-    let costs = bill(&*inputs.inst, &inputs.plan);
-    match report(alloc, &*inputs.inst, &costs) {
-        Ok(text) => Answer {
-            status: if costs.feasible() {
-                Status::Done
-            } else {
-                Status::Infeasible
-            },
-            text,
-        },
-        Err(_) => out_of_memory(alloc),
+    if is_feasible {
+        Status::Done
+    } else {
+        Status::Infeasible
     }
 }
 
-/// Reads an instance and a solution, and makes the report on it.
-pub fn check<R: Files, S: Shelf>(rt: &R, alloc: Global, call: &Check<'_>, shelf: &mut S) -> Answer
-    ensures ends { Answers (CheckEnds (check_call call.now) (S.names shelf.old)) result }
-    ensures cause { HasShelfCause S.Shelf shelf.old shelf.new result.status }
-    ensures kept { S.names shelf.new ≡ S.names shelf.old }
-{
-    match read_or_answer(rt, alloc, call.instance, Some(call.solution), shelf) {
-        Ok(inputs) => checked(alloc, &inputs),
-        Err(answer) => answer,
+impl<'c, 'w> Command for Checking<'c, 'w> {
+    ghost files = { λ c. check_inputs (check_call c.call.now) };
+
+    ghost is_lawful = { λ c. Unit {0} };
+
+    ghost comes_to = { λ c. IsChecked };
+
+    fn names(&self) -> InputNames<'_> {
+        InputNames {
+            instance: self.call.instance,
+            solution: Some(self.call.solution),
+            older: None,
+            journal: None,
+            are_said: false,
+        }
+    }
+
+    fn outcome<'a, R: Threads + Wait + Sync>(
+        &'a self,
+        _rt: &R,
+        alloc: Global,
+        inputs: Inputs,
+    ) -> Result<Outcome<'a>, AllocError> {
+        let costs = bill(&*inputs.inst, &inputs.plan);
+        let text = report(alloc, &*inputs.inst, &costs)?;
+        let status = checked_status(costs.feasible());
+        Ok(Outcome::said(alloc, status, text))
     }
 }

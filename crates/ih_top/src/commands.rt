@@ -1,53 +1,74 @@
-//! The commands, each by the module that does it.
+//! The commands, each by the module that says what it comes to.
 
 ghost use Rattle.std.specs.Prelude.{Some};
+ghost use Rattle.ih_shelf.specs.Outside.{IfTold, IsOnePutAtMost};
+ghost use Rattle.ih_answers.specs.{Answers.HasShelfCause, Ends.Ends, Ends.HasCause, Ends.Received};
+ghost use Rattle.ih_answers.specs.Texts.{ReceivedPart};
 ghost use Rattle.ih_words.specs.Words.{HasLawfulOptions, command_call, OutDiffers};
 ghost use Rattle.ih_top.specs.{Ends.CallEnds, Ends.IsUntouched};
-ghost use Rattle.ih_answers.specs.Answers.{Answers, HasShelfCause};
 
 use crate::advise::advise;
-use crate::check::check;
+use crate::check::Checking;
 use crate::demo::demo;
-use crate::generate::write_instance;
-use crate::journals::{JournalUse, take_journal};
-use crate::searching::{Method, search_by};
-use ih_answers::Answer;
-use ih_shelf::{Gate, Shelf};
+use crate::generate::generated_outcome;
+use crate::journals::{JournalUse, Taking};
+use crate::searching::{Method, search};
+use ih_answers::{Status, conclude};
+use ih_frame::finish;
+use ih_shelf::{Gate, Shelf, Sink};
 use ih_words::Command;
 use std::alloc::Global;
 use std::rt::Files;
 use std::sync::Wait;
 use std::thread::Threads;
 
-/// Does what the command asks for, but for saying so.
-pub fn perform<R: Files + Threads + Wait + Sync, S: Shelf, G: Gate>(
+/// Does what the command asks for, and says how that ended. A demo is handed no file.
+pub fn perform<R: Files + Print + Threads + Wait + Sync, S: Shelf, O: Sink, G: Gate>(
     rt: &R,
     alloc: Global,
     command: &Command<'_>,
     shelf: &mut S,
+    out: &mut O,
     gate: &G,
-) -> Answer
+) -> Status
     requires differ { OutDiffers (command_call command.now) }
     requires lawful { HasLawfulOptions command.now }
-    ensures ends { Answers (CallEnds (command_call command.now) (S.names shelf.old) (S.names shelf.new)) result }
-    ensures cause { HasShelfCause S.Shelf shelf.old shelf.new result.status }
+    ensures ends { Ends (CallEnds (command_call command.now) (S.names shelf.old) (S.names shelf.new))
+        (HasShelfCause S.Shelf shelf.old shelf.new)
+        (Received result (O.text out.old) (O.text out.new) (O.faults out.old) (O.faults out.new))
+        (ReceivedPart (O.text out.old) (O.text out.new) (O.lacks out.old) (O.lacks out.new)) result }
+    ensures once { IfTold IsOnePutAtMost (O.puts out.old) (O.puts out.new) }
+    ensures cause { HasCause (S.read_faults shelf.old) (S.read_faults shelf.new) (S.write_faults shelf.old)
+        (S.write_faults shelf.new) (O.faults out.old) (O.faults out.new) result }
     ensures untouched { IsUntouched (Some (command_call command.now)) shelf.old shelf.new }
 {
     match command {
-        Command::Solve(call) => search_by(rt, alloc, Method::Moves, call, shelf, gate),
-        Command::Replay(call) => take_journal(rt, alloc, JournalUse::Replay, call, shelf),
-        Command::Salvage(call) => take_journal(rt, alloc, JournalUse::Salvage, call, shelf),
-        Command::Check(call) => check(rt, alloc, call, shelf),
-        Command::Chain(call) => {
-            let method = Method::Chains(call.length);
-            search_by(rt, alloc, method, &call.search, shelf, gate)
+        Command::Solve(call) => search(rt, alloc, Method::Moves, call, shelf, out, gate),
+        Command::Chain(chain) => {
+            let method = Method::Chains(chain.length);
+            search(rt, alloc, method, &chain.search, shelf, out, gate)
         }
-        Command::Rounds(call) => {
-            let method = Method::Rounds(call.rounds);
-            search_by(rt, alloc, method, &call.search, shelf, gate)
+        Command::Rounds(rounds) => {
+            let method = Method::Rounds(rounds.rounds);
+            search(rt, alloc, method, &rounds.search, shelf, out, gate)
         }
-        Command::Advise(call) => advise(rt, alloc, call, shelf, gate),
-        Command::Gen(call) => write_instance(rt, alloc, call, shelf),
-        Command::Demo(number) => demo(rt, alloc, *number, gate),
+        Command::Replay(call) => {
+            let journal_use = JournalUse::Replay;
+            ih_frame::perform(rt, alloc, &Taking { journal_use, call }, shelf, out)
+        }
+        Command::Salvage(call) => {
+            let journal_use = JournalUse::Salvage;
+            ih_frame::perform(rt, alloc, &Taking { journal_use, call }, shelf, out)
+        }
+        Command::Check(call) => ih_frame::perform(rt, alloc, &Checking { call }, shelf, out),
+        Command::Advise(call) => advise(rt, alloc, call, shelf, out, gate),
+        Command::Gen(call) => {
+            let made = generated_outcome(alloc, call);
+            finish(rt, alloc, made, shelf, out)
+        }
+        Command::Demo(number) => {
+            let answer = demo(rt, alloc, *number, gate);
+            conclude(rt, out, &answer)
+        }
     }
 }

@@ -4,7 +4,7 @@ ghost use Rattle.std.specs.Prelude.{◌≡◌, ◌<◌, ◌^◌, ◌++◌, IfNon
 ghost use Rattle.ih_plan.specs.Timetable.{IsPlanOf};
 ghost use Rattle.ih_journal.specs.{Settings.IsLawful, Texts.ended, Texts.heading};
 ghost use Rattle.ih_desk.specs.Searching.{base_given};
-ghost use Rattle.ih_words.specs.Start.{start_call};
+ghost use Rattle.ih_arguments.specs.Start.{start_call};
 ghost use Rattle.ih_top.specs.JournalFiles.{read_from};
 ghost use Rattle.ih_top.specs.JournalHeading.{HasNoHeading, IsBegun, base_headed};
 

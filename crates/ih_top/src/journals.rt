@@ -1,26 +1,23 @@
-//! The commands that take a history from a journal, but for what they say at the end.
+//! The commands `replay` and `salvage`: what they come to by a journal.
 
-ghost use Rattle.std.specs.Prelude.{IfOk};
+ghost use Rattle.std.specs.Prelude.{◌≡◌, [], IfOk, option_map, unwrap_or};
 ghost use Rattle.ih_plan.specs.Timetable.{IsPlanOf};
 ghost use Rattle.ih_cellbook.specs.Keeping.{IsBase};
 ghost use Rattle.ih_desk.specs.Searching.{base_given};
-ghost use Rattle.ih_words.specs.{Replay.replay_call, Start.start_call};
-ghost use Rattle.ih_top.specs.JournalFiles.{read_from};
-ghost use Rattle.ih_answers.specs.Answers.{Answers, HasShelfCause};
-ghost use Rattle.ih_top.specs.JournalUses.{IsLinesFor, IsOutcomeFor, JournalUseEnds};
+ghost use Rattle.ih_arguments.specs.{Start.start_call};
+ghost use Rattle.ih_words.specs.{Replay.replay_call};
+ghost use Rattle.ih_top.specs.{Inputs.replay_inputs, JournalFiles.read_from};
+ghost use Rattle.ih_top.specs.JournalUses.{IsJournalUse, IsLinesFor, IsOutcomeFor};
 
 use crate::journal_heading::{begin_headed, given_of};
-use crate::limits::MAX_JOURNAL;
-use crate::outcome::{Outcome, headless, write_outcome};
+use crate::outcome::{JournalOutcome, headless, journal_outcome};
 use crate::replay::replay_lines;
 use crate::salvage::salvage_lines;
-use ih_answers::{Answer, Role, out_of_memory, read_or_answer, unread_file};
 use ih_desk::Given;
-use ih_inputs::Inputs;
-use ih_shelf::Shelf;
+use ih_frame::{Command, Outcome};
+use ih_inputs::{InputNames, Inputs};
 use ih_words::{Replay, Start};
 use std::alloc::{AllocError, Global};
-use std::rt::Files;
 use std::sync::Wait;
 use std::thread::Threads;
 
@@ -34,31 +31,41 @@ pub enum JournalUse {
     Salvage,
 }
 
+/// A call of `replay` or of `salvage`.
+#[derive(Drop)]
+pub struct Taking<'c, 'w> {
+    pub journal_use: JournalUse,
+    pub call: &'c Replay<'w>,
+}
+
 // What the lines behind a journal's heading come to.
 fn lines_outcome(
     alloc: Global,
     journal_use: JournalUse,
     given: &Given<'_>,
     bytes: &[u8],
-) -> Result<Outcome, AllocError>
+) -> Result<JournalOutcome, AllocError>
     requires { IsBase (base_given given.now) }
     ensures { IfOk result (IsLinesFor journal_use (base_given given.now) bytes.now) }
 {
     match journal_use {
         JournalUse::Replay => replay_lines(alloc, given, bytes),
-        JournalUse::Salvage => Ok(Outcome::Taken(salvage_lines(alloc, given, bytes)?)),
+        JournalUse::Salvage => {
+            let best = salvage_lines(alloc, given, bytes)?;
+            Ok(JournalOutcome::Taken(best))
+        }
     }
 }
 
 // What a journal comes to.
-fn journal_outcome<R: Threads + Wait + Sync>(
+fn found_in<R: Threads + Wait + Sync>(
     rt: &R,
     alloc: Global,
     journal_use: JournalUse,
     start: &Start<'_>,
     inputs: Inputs,
     bytes: &[u8],
-) -> Result<Outcome, AllocError>
+) -> Result<JournalOutcome, AllocError>
     requires { IsPlanOf inputs.inst.value.draft inputs.plan }
     ensures { IfOk result (IsOutcomeFor journal_use (start_call start.now) (read_from inputs bytes.now)) }
 {
@@ -70,35 +77,54 @@ fn journal_outcome<R: Threads + Wait + Sync>(
     lines_outcome(alloc, journal_use, &given, headed.lines)
 }
 
-/// Reads the instance, the start and the journal, takes the history from that, and writes the solution of its best.
-pub fn take_journal<R: Files + Threads + Wait + Sync, S: Shelf>(
-    rt: &R,
-    alloc: Global,
-    journal_use: JournalUse,
-    call: &Replay<'_>,
-    shelf: &mut S,
-) -> Answer
-    ensures ends { Answers
-        (JournalUseEnds journal_use (replay_call call.now) (S.names shelf.old) (S.names shelf.new)) result }
-    ensures cause { HasShelfCause S.Shelf shelf.old shelf.new result.status }
+// The bytes of a journal. A call that names one has them.
+fn bytes_of(alloc: Global, journal: Option<Vec<u8>>) -> Vec<u8>
+    ensures { result.items ≡ unwrap_or (option_map (λ v. v.items) journal) [] }
 {
-    let inputs = match read_or_answer(rt, alloc, call.instance, call.start.file, shelf) {
-        Ok(inputs) => inputs,
-        Err(answer) => return answer,
-    };
-    let bytes = match shelf.read(rt, alloc, call.journal, MAX_JOURNAL) {
-        Ok(bytes) => bytes,
-        Err(error) => return unread_file(alloc, Role::Journal, call.journal, error),
-    };
-    match journal_outcome(
-        rt,
-        alloc,
-        journal_use,
-        &call.start,
-        inputs,
-        bytes.as_slice(),
-    ) {
-        Ok(outcome) => write_outcome(rt, alloc, call.out, outcome, shelf),
-        Err(_) => out_of_memory(alloc),
+    match journal {
+        Some(bytes) => bytes,
+        None => Vec::new(alloc),
+    }
+}
+
+impl<'c, 'w> Command for Taking<'c, 'w> {
+    ghost files = { λ t. replay_inputs (replay_call t.call.now) };
+
+    ghost is_lawful = { λ t. Unit {0} };
+
+    ghost comes_to = { λ t. IsJournalUse t.journal_use (replay_call t.call.now) };
+
+    fn names(&self) -> InputNames<'_> {
+        InputNames {
+            instance: self.call.instance,
+            solution: self.call.start.file,
+            older: None,
+            journal: Some(self.call.journal),
+            are_said: false,
+        }
+    }
+
+    fn outcome<'a, R: Threads + Wait + Sync>(
+        &'a self,
+        rt: &R,
+        alloc: Global,
+        inputs: Inputs,
+    ) -> Result<Outcome<'a>, AllocError> {
+        let Inputs {
+            inst,
+            plan,
+            older,
+            journal,
+        } = inputs;
+        let bytes = bytes_of(alloc, journal);
+        let read = Inputs {
+            inst,
+            plan,
+            older,
+            journal: None,
+        };
+        let start = &self.call.start;
+        let found = found_in(rt, alloc, self.journal_use, start, read, bytes.as_slice())?;
+        journal_outcome(alloc, self.call.out, found)
     }
 }

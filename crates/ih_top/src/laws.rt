@@ -8,14 +8,15 @@ ghost use Rattle.ih_top.specs.Laws.{JournalsFit, SolvesReplayTheSame, SolvesWith
 ghost use Rattle.ih_top.specs.Laws.{LoneRoundsEndAlike, LoneSearchesAreAlike, LoneSearchesDoTheSame};
 ghost use Rattle.ih_top.specs.Laws.{LoneSearchesEndAlike, RefusedLinesAreNotFull, RoundsAreRefused};
 ghost use Rattle.ih_top.specs.Laws.{WholeLinesAreSalvaged};
-ghost use Rattle.ih_inputs.specs.declared.reading.TheConstants.{MAX_FILE};
-ghost use Rattle.ih_top.specs.declared.limits.TheConstants.{MAX_JOURNAL};
+ghost use Rattle.ih_inputs.specs.declared.reading.TheConstants.{MAX_FILE, MAX_JOURNAL};
 ghost use Rattle.ih_top.specs.{Chain.of_chains, Solve.of_moves};
 ghost use Rattle.std.specs.Prelude.{ℕ, ◌≡◌};
-ghost use Rattle.ih_journal.specs.declared.settings.TheConstants.{MAX_ENTRIES, MAX_HARD, MAX_HEAT, MAX_MOVES};
-ghost use Rattle.ih_journal.specs.declared.settings.TheConstants.{MAX_RETRIES, MAX_WORKERS};
+ghost use Rattle.ih_plan.specs.declared.limits.TheConstants.{MAX_HARD, MAX_HEAT};
+ghost use Rattle.ih_journal.specs.declared.settings.TheConstants.{MAX_ENTRIES, MAX_MOVES};
+ghost use Rattle.ih_plan.specs.declared.limits.TheConstants.{MAX_WORKERS};
+ghost use Rattle.ih_journal.specs.declared.settings.TheConstants.{MAX_RETRIES};
 ghost use Rattle.ih_words.specs.{declared.chain.TheConstants.MAX_LENGTH, declared.rounds.TheConstants.MAX_ROUNDS};
-ghost use Rattle.ih_words.specs.{declared.start.TheConstants.MAX_FREEZE};
+ghost use Rattle.ih_plan.specs.{declared.limits.TheConstants.MAX_FREEZE};
 
 use ih_cellbook::{journals_tell_searches_apart, legal_journals_are_short};
 use ih_chain::{chain_journals_are_short, chain_journals_tell_searches_apart};

@@ -11,7 +11,6 @@ mod journal_heading;
 mod journal_lines;
 mod journals;
 mod laws;
-mod limits;
 mod outcome;
 mod output;
 mod replay;
@@ -20,16 +19,15 @@ mod running;
 mod salvage;
 mod searching;
 mod solve;
-mod starts;
 mod texts;
 mod writer;
 
 pub use ih_answers::{Role, Status};
+pub use ih_inputs::MAX_JOURNAL;
 pub use laws::{
     chains_are_refused, journals_tell_calls_apart, limits_are_these, lone_searches_are_alike,
     refused_lines_are_not_full, rounds_are_refused, solves_replay_the_same,
     whole_lines_are_salvaged,
 };
-pub use limits::MAX_JOURNAL;
 pub use rounds_output::history_at_desk;
 pub use running::run;

@@ -1,20 +1,19 @@
-//! What a journal comes to, and how that is written.
+//! What a journal comes to, and how that is written and said.
 
-ghost use Rattle.std.specs.Prelude.{◌≡◌};
-ghost use Rattle.ih_top.specs.Outcomes.{OutcomeEnds};
-ghost use Rattle.ih_answers.specs.Answers.{Answers, HasShelfCause};
+ghost use Rattle.std.specs.Prelude.{◌≡◌, IfOk};
+ghost use Rattle.ih_frame.specs.Outcomes.{IsOwnStatus, outcome_of};
+ghost use Rattle.ih_top.specs.Outcomes.{journal_outcome};
 
 use crate::output::BestOutput;
-use crate::texts::journal_refused;
-use ih_answers::{Answer, Role, Status, none_found, unwritten};
+use crate::texts::{journal_refused_text, none_found_text};
+use ih_answers::{Role, Status};
+use ih_frame::Outcome;
 use ih_journal::{JournalRefusal, Reason};
-use ih_shelf::Shelf;
-use std::alloc::Global;
-use std::rt::Files;
+use std::alloc::{AllocError, Global};
 
 /// What a journal comes to.
 #[derive(Drop)]
-pub enum Outcome {
+pub enum JournalOutcome {
     /// It is refused.
     Refused(JournalRefusal),
     /// A history was taken from it, and this is its best, where some timetable of it is feasible.
@@ -22,36 +21,35 @@ pub enum Outcome {
 }
 
 /// Line 1 is no heading.
-pub fn headless() -> Outcome
-    ensures { result ≡ Outcome.Refused (record { line = 1; reason = Reason.Heading }) }
+pub fn headless() -> JournalOutcome
+    ensures { result ≡ JournalOutcome.Refused (record { line = 1; reason = Reason.Heading }) }
 {
-    Outcome::Refused(JournalRefusal {
+    JournalOutcome::Refused(JournalRefusal {
         line: 1,
         reason: Reason::Heading,
     })
 }
 
-/// Writes the best of the outcome, where there is one.
-pub fn write_outcome<R: Files, S: Shelf>(
-    rt: &R,
+/// The solution of the best is written, where there is one.
+pub fn journal_outcome<'a>(
     alloc: Global,
-    out: &str,
-    outcome: Outcome,
-    shelf: &mut S,
-) -> Answer
-    ensures ends { Answers (OutcomeEnds outcome out.now (S.names shelf.old) (S.names shelf.new)) result }
-    ensures cause { HasShelfCause S.Shelf shelf.old shelf.new result.status }
+    out: &'a str,
+    found: JournalOutcome,
+) -> Result<Outcome<'a>, AllocError>
+    ensures outcome { IfOk result (λ o. outcome_of o ≡ journal_outcome out.entry.now found) }
+    ensures own { IfOk result (λ o. IsOwnStatus o.status) }
 {
-    let best = match outcome {
-        Outcome::Refused(refusal) => return journal_refused(alloc, refusal),
-        Outcome::Taken(None) => return none_found(alloc),
-        Outcome::Taken(Some(best)) => best,
-    };
-    match shelf.write(rt, out, best.solution.as_slice()) {
-        Ok(()) => Answer {
-            status: Status::Done,
-            text: best.text,
-        },
-        Err(error) => unwritten(alloc, Role::Out, out, error),
+    match found {
+        JournalOutcome::Refused(refusal) => {
+            let text = journal_refused_text(alloc, refusal)?;
+            Ok(Outcome::said(alloc, Status::JournalRefused(refusal), text))
+        }
+        JournalOutcome::Taken(None) => {
+            let text = none_found_text(alloc)?;
+            Ok(Outcome::said(alloc, Status::NoneFound, text))
+        }
+        JournalOutcome::Taken(Some(best)) => {
+            Outcome::written(alloc, Role::Out, out, best.solution, best.text)
+        }
     }
 }

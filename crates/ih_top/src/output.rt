@@ -8,8 +8,8 @@ ghost use Rattle.ih_cellbook.specs.Keeping.{IsBase};
 ghost use Rattle.ih_desk.specs.Searching.{base_given};
 ghost use Rattle.ih_top.specs.{Texts.best_line, Texts.found_text, Outputs.HasBestOutput, Outputs.IsBestOutput};
 
+use ih_cellbook::plan_at;
 use ih_desk::Given;
-use ih_history::plan_at;
 use ih_journal::{Entry, Options};
 use ih_plan::Plan;
 use ih_solution::write_solution;

@@ -7,14 +7,18 @@ ghost use Rattle.ih_top.specs.Outcomes.{IsLinesOutcome};
 
 use crate::journal_lines::take_lines;
 use crate::laws::refused_lines_are_not_full;
-use crate::outcome::Outcome;
+use crate::outcome::JournalOutcome;
 use crate::output::best_of;
 use ih_desk::Given;
 use ih_replay::Replay;
 use std::alloc::{AllocError, Global};
 
 /// What the lines behind a journal's heading come to, which have to be those of a full history.
-pub fn replay_lines(alloc: Global, given: &Given<'_>, bytes: &[u8]) -> Result<Outcome, AllocError>
+pub fn replay_lines(
+    alloc: Global,
+    given: &Given<'_>,
+    bytes: &[u8],
+) -> Result<JournalOutcome, AllocError>
     requires { IsBase (base_given given.now) }
     ensures { IfOk result (IsLinesOutcome (base_given given.now) bytes.now) }
 {
@@ -23,12 +27,12 @@ pub fn replay_lines(alloc: Global, given: &Given<'_>, bytes: &[u8]) -> Result<Ou
         Ok(()) => {
             let entries = replay.entries();
             let best = best_of(alloc, given, entries, replay.best())?;
-            Ok(Outcome::Taken(best))
+            Ok(JournalOutcome::Taken(best))
         }
         Err(refusal) => {
             // For the proof alone.
             refused_lines_are_not_full();
-            Ok(Outcome::Refused(refusal))
+            Ok(JournalOutcome::Refused(refusal))
         }
     }
 }

@@ -56,10 +56,7 @@ pub fn run<R: Files + Print + Threads + Wait + Sync, S: Shelf, O: Sink, G: Gate>
         (Rose (O.faults out.old) (O.faults out.new)) result }
 {
     match read_words(alloc, words) {
-        Ok(command) => {
-            let answer = perform(rt, alloc, &command, shelf, gate);
-            conclude(rt, out, &answer)
-        }
+        Ok(command) => perform(rt, alloc, &command, shelf, out, gate),
         Err(WordsError::Unlawful) => conclude(rt, out, &usage(alloc)),
         Err(WordsError::OutOfMemory) => conclude_memory(rt, out),
     }

@@ -6,8 +6,8 @@ ghost use Rattle.ih_desk.specs.Searching.{base_given};
 ghost use Rattle.ih_top.specs.{Outputs.IsOutput, Solve.of_moves};
 
 use crate::output::{Output, best_of, seed_of};
+use ih_cellbook::journal_text;
 use ih_desk::Given;
-use ih_history::journal_text;
 use ih_shelf::Gate;
 use ih_workers::search_by_moves;
 use std::alloc::{AllocError, Global};

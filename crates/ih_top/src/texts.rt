@@ -1,12 +1,12 @@
-//! The answers of this program alone that say one line.
+//! The texts of one line, and the answer that the words name no call.
 
-ghost use Rattle.std.specs.Prelude.{◌≡◌};
+ghost use Rattle.std.specs.Prelude.{◌≡◌, IfOk};
 ghost use Rattle.ih_top.specs.Texts.{journal_refused_text, reason_text, usage_text};
-ghost use Rattle.ih_answers.specs.Answers.{IsSaid};
+ghost use Rattle.ih_answers.specs.{Answers.IsSaid, Texts.none_found_text};
 
 use ih_answers::{Answer, Status, said};
 use ih_journal::{JournalRefusal, Reason};
-use std::alloc::Global;
+use std::alloc::{AllocError, Global};
 
 /// The words name no call.
 #[tactic(auto, using(ih_answers::proofs::Saying::said_by), unfolding(crate::specs::Texts::usage_text))]
@@ -40,12 +40,19 @@ fn reason_name(reason: Reason) -> &'static str
 }
 
 /// The journal is refused.
-#[tactic(auto, using(ih_answers::proofs::Saying::said_by))]
-pub fn journal_refused(alloc: Global, refusal: JournalRefusal) -> Answer
-    ensures { IsSaid (Status.JournalRefused refusal) (journal_refused_text refusal) result }
+pub fn journal_refused_text(alloc: Global, refusal: JournalRefusal) -> Result<Vec<u8>, AllocError>
+    ensures { IfOk result (λ text. text.items ≡ journal_refused_text refusal) }
 {
     let line = refusal.line;
     let reason = reason_name(refusal.reason);
-    let text = format!(in alloc; "journal refused: line {line}: {reason}\n");
-    said(alloc, Status::JournalRefused(refusal), text)
+    let text = format!(in alloc; "journal refused: line {line}: {reason}\n")?;
+    Ok(text.into_bytes())
+}
+
+/// No timetable was found that breaks no hard rule.
+pub fn none_found_text(alloc: Global) -> Result<Vec<u8>, AllocError>
+    ensures { IfOk result (λ text. text.items ≡ none_found_text) }
+{
+    let text = String::from_str(alloc, "none found\n")?;
+    Ok(text.into_bytes())
 }

@@ -1,59 +1,50 @@
-//! What a search made, written: the journal, then the solution of the best.
+//! What a search made, to be written and said.
 
-ghost use Rattle.std.specs.Prelude.{◌≢◌};
+ghost use Rattle.std.specs.Prelude.{◌≡◌, IfOk};
 ghost use Rattle.ih_words.specs.Solve.{solve_call};
-ghost use Rattle.ih_top.specs.{Outputs.MadeEnds, Outputs.OutputEnds};
-ghost use Rattle.ih_answers.specs.Answers.{Answers, HasShelfCause};
+ghost use Rattle.ih_frame.specs.Outcomes.{IsOwnStatus, outcome_of};
+ghost use Rattle.ih_top.specs.Outputs.{search_outcome};
 
 use crate::output::Output;
-use ih_answers::{Answer, Role, Status, none_found, out_of_memory, unwritten};
-use ih_shelf::Shelf;
+use crate::texts::none_found_text;
+use ih_answers::{Role, Status};
+use ih_frame::{Outcome, Writing};
 use ih_words::Solve;
 use std::alloc::{AllocError, Global};
-use std::rt::Files;
 
-// Writes the journal, then the solution of the best where there is one.
-fn write_output<R: Files, S: Shelf>(
-    rt: &R,
+/// The journal is written, then the solution of the best where there is one.
+pub fn search_outcome<'a>(
     alloc: Global,
-    call: &Solve<'_>,
+    call: &'a Solve<'_>,
     output: Output,
-    shelf: &mut S,
-) -> Answer
-    requires { call.now.out.now ≢ call.now.journal.now }
-    ensures ends { Answers (OutputEnds (solve_call call.now) output (S.names shelf.old) (S.names shelf.new)) result }
-    ensures cause { HasShelfCause S.Shelf shelf.old shelf.new result.status }
+) -> Result<Outcome<'a>, AllocError>
+    ensures outcome { IfOk result
+        (λ o. outcome_of o ≡ search_outcome (solve_call call.entry.now) output.journal.items output.best) }
+    ensures own { IfOk result (λ o. IsOwnStatus o.status) }
 {
     let Output { journal, best } = output;
-    if let Err(error) = shelf.write(rt, call.journal, journal.as_slice()) {
-        return unwritten(alloc, Role::Journal, call.journal, error);
-    }
+    let mut writes = Vec::new(alloc);
+    writes.push(Writing {
+        role: Role::Journal,
+        name: call.journal,
+        bytes: journal,
+    })?;
     let Some(best) = best else {
-        return none_found(alloc);
+        let text = none_found_text(alloc)?;
+        return Ok(Outcome {
+            writes,
+            text,
+            status: Status::NoneFound,
+        });
     };
-    if let Err(error) = shelf.write(rt, call.out, best.solution.as_slice()) {
-        return unwritten(alloc, Role::Out, call.out, error);
-    }
-    Answer {
-        status: Status::Done,
+    writes.push(Writing {
+        role: Role::Out,
+        name: call.out,
+        bytes: best.solution,
+    })?;
+    Ok(Outcome {
+        writes,
         text: best.text,
-    }
-}
-
-/// Writes what a search made, or says that memory ran out as it was made.
-pub fn write_made<R: Files, S: Shelf>(
-    rt: &R,
-    alloc: Global,
-    call: &Solve<'_>,
-    made: Result<Output, AllocError>,
-    shelf: &mut S,
-) -> Answer
-    requires { call.now.out.now ≢ call.now.journal.now }
-    ensures ends { Answers (MadeEnds (solve_call call.now) made (S.names shelf.old) (S.names shelf.new)) result }
-    ensures cause { HasShelfCause S.Shelf shelf.old shelf.new result.status }
-{
-    match made {
-        Ok(output) => write_output(rt, alloc, call, output, shelf),
-        Err(_) => out_of_memory(alloc),
-    }
+        status: Status::Done,
+    })
 }

@@ -1,13 +1,12 @@
-use Rattle.ih_inputs.specs.Reading.{InputFiles, files_of}
+use Rattle.ih_inputs.specs.Reading.{files_of}
 use Rattle.ih_answers.proofs.Stopping.{stopped-answer, stopped-cause}
 use Rattle.ih_answers.proofs.inputs.read_or_answer.Goals as goal
 
 pub returns-in-Err-clause-unread : goal.returns-in-Err-clause-unread
 returns-in-Err-clause-unread g c =
-    let r : InputFiles = files_of (record { instance = c.args.instance; solution = c.args.solution }) in
-    stopped-answer (g.S.Shelf.names c.args.shelf.now) r c.in-Err.error c.unread_inputs.result c.in-Err.ensures.unread c.unread_inputs.ensures
+    stopped-answer (g.S.Shelf.names c.args.shelf.now) (files_of c.args.names.now) c.in-Err.error c.unread_inputs.result c.in-Err.ensures.unread
+    c.unread_inputs.ensures
 
 pub returns-in-Err-clause-cause : goal.returns-in-Err-clause-cause
 returns-in-Err-clause-cause g c =
-    let r : InputFiles = files_of (record { instance = c.args.instance; solution = c.args.solution }) in
-    stopped-cause _ _ _ _ r c.in-Err.error c.unread_inputs.result c.in-Err.ensures.cause c.unread_inputs.ensures
+    stopped-cause _ _ _ _ (files_of c.args.names.now) c.in-Err.error c.unread_inputs.result c.in-Err.ensures.cause c.unread_inputs.ensures

@@ -1,9 +1,9 @@
 use Rattle.std.proofs.Common.{codes, refl}
 use Rattle.clap.proofs.OnLiterals.{clap_on_literals}
-use Rattle.ih_journal.specs.declared.settings.TheConstants.{MAX_WORKERS}
-use Rattle.ih_words.specs.Arguments.{named, optional_between}
-use Rattle.ih_words.specs.Distinct.{all_differ}
-use Rattle.ih_words.proofs.DescriptionRules.{requires_name, takes_between}
+use Rattle.ih_plan.specs.declared.limits.TheConstants.{MAX_WORKERS}
+use Rattle.ih_arguments.specs.Arguments.{named, optional_between}
+use Rattle.ih_arguments.specs.Distinct.{all_differ}
+use Rattle.ih_arguments.proofs.DescriptionRules.{requires_name, takes_between}
 use Rattle.ih_planning.specs.Bound.{bound_app, lawful_bound}
 use Rattle.ih_planning.specs.declared.bound_words.TheConstants.{MAX_BOUND_ROUNDS}
 use Rattle.ih_planning.proofs.WordsRead.{explained-read}

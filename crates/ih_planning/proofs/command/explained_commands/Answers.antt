@@ -1,7 +1,7 @@
 use Rattle.std.proofs.Common.{◌≡◌, ◌∙◌, ap, map, string_bytes, subst, sym, true}
 use Rattle.clap.specs.Words.{App, HasKind, app_of, fault_of, is_simple_and_free}
-use Rattle.ih_words.specs.Matches.{has_no_fault}
-use Rattle.ih_words.proofs.Faults.{no_fault_at}
+use Rattle.ih_arguments.specs.Matches.{has_no_fault}
+use Rattle.ih_arguments.proofs.Faults.{no_fault_at}
 use Rattle.ih_planning.specs.Explaining.{program_app}
 use Rattle.ih_planning.proofs.Descriptions.{program-simple}
 use Rattle.ih_planning.proofs.WordsRead.{explained-as, refused-as}

@@ -1,12 +1,12 @@
 use Rattle.std.proofs.Common.{List, Some, codes, map, refl, string_bytes, sym}
 use Rattle.clap.specs.Words.{Row, found_of, rows_of}
 use Rattle.clap.proofs.OnLiterals.{clap_on_literals}
-use Rattle.ih_journal.specs.declared.settings.TheConstants.{MAX_HARD, MAX_HEAT, MAX_WORKERS}
+use Rattle.ih_plan.specs.declared.limits.TheConstants.{MAX_HARD, MAX_HEAT, MAX_WORKERS}
 use Rattle.ih_improve.specs.declared.settings.TheConstants.{MAX_ROUNDS}
-use Rattle.ih_words.specs.Arguments.{any_number_option, named, numbered_option, optional_between, optional_number, seed_option}
-use Rattle.ih_words.specs.Distinct.{all_differ}
-use Rattle.ih_words.specs.declared.start.TheConstants.{MAX_FREEZE}
-use Rattle.ih_words.proofs.DescriptionRules.{requires_name, requires_number, takes_between, takes_number}
+use Rattle.ih_arguments.specs.Arguments.{any_number_option, named, numbered_option, optional_between, optional_number, seed_option}
+use Rattle.ih_arguments.specs.Distinct.{all_differ}
+use Rattle.ih_plan.specs.declared.limits.TheConstants.{MAX_FREEZE}
+use Rattle.ih_arguments.proofs.DescriptionRules.{requires_name, requires_number, takes_between, takes_number}
 use Rattle.ih_planning.specs.Improve.{ImproveCall, improve_app, improve_call, lawful_improve}
 use Rattle.ih_planning.proofs.SettingsRead.{lawful-call, unlawful-call}
 use Rattle.ih_planning.proofs.WordsRead.{asked-matches, explained-read, refused-read}

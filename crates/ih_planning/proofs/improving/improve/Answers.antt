@@ -1,48 +1,72 @@
-use Rattle.std.proofs.Common.{arith}
-use Rattle.ih_answers.specs.Answers.{HasShelfCause}
+use Rattle.std.proofs.Common.{◌∙◌, ap, arith, refl, subst, sym}
+use Rattle.ih_inputs.specs.Reading.{HasGiven, InputFiles, given_of}
+use Rattle.ih_improve.specs.declared.settings.Settings.{Settings}
+use Rattle.ih_answers.specs.Answers.{Answers, HasShelfCause}
+use Rattle.ih_answers.specs.Ends.{Received}
+use Rattle.ih_answers.specs.Inputs.{EndsUnread}
+use Rattle.ih_answers.specs.Texts.{ReceivedPart}
 use Rattle.ih_answers.proofs.Files.{told-same}
-use Rattle.ih_answers.proofs.Later.{cause-from}
-use Rattle.ih_answers.proofs.Saying.{has-cause}
-use Rattle.ih_planning.specs.Improve.{ImproveCall, improve_call}
-use Rattle.ih_planning.proofs.ImproveCalls.{read-then, unread-ended}
-use Rattle.ih_planning.proofs.PutCounts.{one-within}
+use Rattle.ih_planning.specs.Improve.{improve_call}
+use Rattle.ih_planning.proofs.ImproveCalls.{rounds-left, search-of, searched-ended, unbegun-ended, unread-ended}
 use Rattle.ih_planning.proofs.improving.improve.Goals as goal
-
-pub search_from-requires-clause-read : goal.search_from-requires-clause-read
-search_from-requires-clause-read g c κs within = rw c.in-Ok.ensures.only.kept c.in-Ok.ensures.read
-
-pub returns-in-Ok-clause-ends : goal.returns-in-Ok-clause-ends
-returns-in-Ok-clause-ends g c =
-    let call : ImproveCall = improve_call c.args.call.now in
-    let old = c.args.shelf.now in
-    let mid = c.read_or_answer.new.shelf in
-    let new = c.search_from.new.shelf in
-    read-then call _ _ c.search_from.result (g.S.Shelf.names old) (g.S.Shelf.names mid) (g.S.Shelf.names new) c.in-Ok.ensures.only.kept
-    (g.S.Shelf.read_faults old) (g.S.Shelf.read_faults mid) (g.S.Shelf.read_faults new) (g.S.Shelf.write_faults old) (g.S.Shelf.write_faults mid)
-    (g.S.Shelf.write_faults new) c.in-Ok.ensures.only.count (omega (arith, c.in-Ok.ensures.only.other_count)) c.search_from.ensures.ends
-
-pub returns-in-Ok-clause-cause : goal.returns-in-Ok-clause-cause
-returns-in-Ok-clause-cause g c =
-    let old = c.args.shelf.now in
-    let mid = c.read_or_answer.new.shelf in
-    let new = c.search_from.new.shelf in
-    cause-from (g.S.Shelf.read_faults old) (g.S.Shelf.read_faults mid) (g.S.Shelf.read_faults new) (g.S.Shelf.write_faults old)
-    (g.S.Shelf.write_faults mid) (g.S.Shelf.write_faults new) c.in-Ok.ensures.only.count (omega (arith, c.in-Ok.ensures.only.other_count))
-    (g.O.Sink.faults c.args.out.now) (g.O.Sink.faults c.args.out.now) (g.O.Sink.faults c.search_from.new.out) (omega arith) c.search_from.result
-    c.search_from.ensures.cause
 
 pub returns-in-Err-clause-ends : goal.returns-in-Err-clause-ends
 returns-in-Err-clause-ends g c =
-    let call : ImproveCall = improve_call c.args.call.now in
     let old = c.args.shelf.now in
     let new = c.read_or_answer.new.shelf in
-    unread-ended call _ _ c.conclude.result (HasShelfCause g.S.Shelf old new) (g.S.Shelf.names old) (g.S.Shelf.names new)
-    (told-same (g.S.Shelf.names old) (g.S.Shelf.names new) c.in-Err.ensures.only.kept) c.in-Err.answer c.in-Err.ensures.unread c.in-Err.ensures.cause
-    c.conclude.ensures.said
+    let names = g.S.Shelf.names old in
+    let before = g.O.Sink.text c.args.out.now in
+    let after = g.O.Sink.text c.conclude.new.out in
+    let unread = subst (λ (f : InputFiles). Answers (EndsUnread names f) c.in-Err.answer) c.names_of.ensures c.in-Err.ensures.unread in
+    unread-ended (improve_call c.args.call.now) names (g.S.Shelf.names new)
+    (Received c.conclude.result before after (g.O.Sink.faults c.args.out.now) (g.O.Sink.faults c.conclude.new.out))
+    (ReceivedPart before after (g.O.Sink.lacks c.args.out.now) (g.O.Sink.lacks c.conclude.new.out)) (HasShelfCause g.S.Shelf old new)
+    (told-same names (g.S.Shelf.names new) c.in-Err.ensures.only.kept) c.in-Err.answer unread c.conclude.result c.in-Err.ensures.cause c.conclude.ensures.said
 
-pub returns-in-Err-clause-cause : goal.returns-in-Err-clause-cause
-returns-in-Err-clause-cause g c =
-    has-cause _ _ _ _ _ _ _ _ c.in-Err.answer.status c.conclude.result c.in-Err.ensures.cause c.conclude.ensures.cause
+pub go_on-requires-sync-R : goal.go_on-requires-sync-R
+go_on-requires-sync-R g c κs within =
+    let s = c.in-Ok-search_from.ensures in
+    let rounds = s.rounds in (
+      c.type_bounds.sync-R,
+      (
+        (refl, tt),
+        (
+          (s.instance, s.rounds ∙ sym (ap (λ (t : Settings). t.rounds) s.search.settings.are)),
+          rounds-left _ (improve_call c.args.call.now) (given_of c.in-Ok.inputs) c.in-Ok-search_from.search.improver s.search
+              c.in-Ok-search_from.search.rounds rounds,
+        ),
+      ),
+    )
 
-pub returns-in-Err-clause-few : goal.returns-in-Err-clause-few
-returns-in-Err-clause-few g c = one-within _ _ _ c.conclude.ensures.once
+pub returns-in-Ok-search_from-clause-ends : goal.returns-in-Ok-search_from-clause-ends
+returns-in-Ok-search_from-clause-ends g c =
+    let call = improve_call c.args.call.now in
+    let old = c.args.shelf.now in
+    let mid = c.read_or_answer.new.shelf in
+    let new = c.go_on.new.shelf in
+    let only = c.in-Ok.ensures.only in
+    let same = only.other_count in
+    let before = g.O.Sink.text c.args.out.now in
+    let after = g.O.Sink.text c.go_on.new.out in
+    let search = c.in-Ok-search_from.search in
+    let read = subst (λ (f : InputFiles). HasGiven (g.S.Shelf.names old) f (given_of c.in-Ok.inputs)) c.names_of.ensures c.in-Ok.ensures.read in
+    searched-ended call (g.S.Shelf.names old) (g.S.Shelf.names mid) (g.S.Shelf.names new) only.kept search.improver
+    (search-of (g.S.Shelf.names old) call (given_of c.in-Ok.inputs) search.improver read c.in-Ok-search_from.ensures.search) search.out.now
+    (ap (λ t. t.now) c.in-Ok-search_from.ensures.out)
+    (Received c.go_on.result before after (g.O.Sink.faults c.args.out.now) (g.O.Sink.faults c.go_on.new.out))
+    (ReceivedPart before after (g.O.Sink.lacks c.args.out.now) (g.O.Sink.lacks c.go_on.new.out))
+    (g.S.Shelf.read_faults old) (g.S.Shelf.read_faults mid) (g.S.Shelf.read_faults new) (g.S.Shelf.write_faults old) (g.S.Shelf.write_faults mid)
+    (g.S.Shelf.write_faults new) only.count (omega (arith, same)) c.go_on.result c.go_on.ensures.ends
+
+pub returns-clause-ends : goal.returns-clause-ends
+returns-clause-ends g c =
+    let old = c.args.shelf.now in
+    let new = c.read_or_answer.new.shelf in
+    let names = g.S.Shelf.names old in
+    let before = g.O.Sink.text c.args.out.now in
+    let after = g.O.Sink.text c.conclude_memory.new.out in
+    unbegun-ended (improve_call c.args.call.now) names (g.S.Shelf.names new)
+    (Received c.conclude_memory.result before after (g.O.Sink.faults c.args.out.now) (g.O.Sink.faults c.conclude_memory.new.out))
+    (ReceivedPart before after (g.O.Sink.lacks c.args.out.now) (g.O.Sink.lacks c.conclude_memory.new.out)) (HasShelfCause g.S.Shelf old new)
+    (told-same names (g.S.Shelf.names new) c.in-Ok.ensures.only.kept) tt c.conclude_memory.ensures.said c.conclude_memory.result
+    c.conclude_memory.ensures.status

@@ -1,46 +1,27 @@
-use Rattle.std.proofs.Common.{◌≡◌, ap, subst, sym}
+use Rattle.std.proofs.Common.{◌≡◌, ◌∙◌, ap, subst, sym}
 use Rattle.ih_tables.specs.declared.drafts.Draft.{Draft}
-use Rattle.ih_improve.specs.declared.settings.Settings.{Settings}
-use Rattle.ih_answers.specs.Answers.{HasShelfCause}
-use Rattle.ih_answers.specs.Ends.{Ends, Received}
-use Rattle.ih_answers.specs.Texts.{ReceivedPart}
-use Rattle.ih_planning.specs.Improve.{ImproveCall, improve_call}
-use Rattle.ih_planning.specs.Searching.{AreSettingsOf, BegunEnds, ImproveEnds, new_search}
-use Rattle.ih_planning.proofs.ImproveCalls.{unbegun-ended}
-use Rattle.ih_planning.proofs.PutCounts.{one-within}
-use Rattle.ih_planning.proofs.SearchEnding.{begun-ends, ends-as}
+use Rattle.ih_fill.specs.Fill.{fill}
+use Rattle.ih_fill.specs.Starts.{started}
+use Rattle.ih_planning.specs.Improve.{improve_call}
+use Rattle.ih_planning.specs.Searching.{AreSettingsOf}
+use Rattle.ih_planning.proofs.SameSearches.{search-from}
 use Rattle.ih_planning.proofs.improving.search_from.Goals as goal
+use Rattle.ih_planning.proofs.improving.search_from.Goals.{then-call+in_ok-filled+in_ok-improver, else-call+in_ok-improver-2}
 
-pub search_begun-requires-clause-rounds : goal.search_begun-requires-clause-rounds
-search_begun-requires-clause-rounds g c κs within = sym (ap (λ (s : Settings). s.rounds) c.settings_of-settings.ensures.are)
-
-pub returns-in-Ok-clause-ends : goal.returns-in-Ok-clause-ends
-returns-in-Ok-clause-ends g c =
-    let call : ImproveCall = improve_call c.args.call.now in
-    let s : Settings = c.settings_of-settings.result in
-    let old = g.S.Shelf.names c.args.shelf.now in
-    let new = g.S.Shelf.names c.search_begun.new.shelf in
-    let cause = HasShelfCause g.S.Shelf c.args.shelf.now c.search_begun.new.shelf in
-    let I = c.args.inputs.inst.value.draft in
-    let J = c.in-Ok.begun.inst.value.draft in
-    let start = c.in-Ok.begun.start in
-    let same : c.deref-inst.result.now.draft ≡ I = cc in
+pub returns-clause-search : goal.returns-clause-search
+returns-clause-search c =
+    let call = improve_call c.args.call.now in
+    let I = c.args.inputs.now.inst.value.draft in
+    let J = c.deref-inst.result.now.draft in
+    let P = c.args.inputs.now.plan in
+    let s = c.settings_of-settings.result in
+    let same : J ≡ I = cc in
     let settings = subst (λ (X : Draft). AreSettingsOf X call s) same c.settings_of-settings.ensures in
-    ends-as (BegunEnds call.out (new_search J start s) old new) (ImproveEnds call old new) cause cause _ _
-    (begun-ends call old new I J c.args.inputs.plan start s c.requires.read c.in-Ok.ensures.instance settings c.in-Ok.ensures.start) (λ k h. h)
-    c.search_begun.result c.search_begun.ensures.ends
-
-pub returns-in-Err-clause-ends : goal.returns-in-Err-clause-ends
-returns-in-Err-clause-ends g c =
-    let call : ImproveCall = improve_call c.args.call.now in
-    let files = g.S.Shelf.names c.args.shelf.now in
-    let cause = HasShelfCause g.S.Shelf c.args.shelf.now c.args.shelf.now in
-    let before = g.O.Sink.text c.args.out.now in
-    let after = g.O.Sink.text c.conclude_memory.new.out in
-    let received = Received c.conclude_memory.result before after (g.O.Sink.faults c.args.out.now) (g.O.Sink.faults c.conclude_memory.new.out) in
-    let part = ReceivedPart before after (g.O.Sink.lacks c.args.out.now) (g.O.Sink.lacks c.conclude_memory.new.out) in
-    subst (Ends (ImproveEnds call files files) cause received part) (sym c.conclude_memory.ensures.status)
-    (unbegun-ended call received part cause files tt c.conclude_memory.ensures.said)
-
-pub returns-in-Err-clause-few : goal.returns-in-Err-clause-few
-returns-in-Err-clause-few g c = one-within _ _ _ c.conclude_memory.ensures.once
+    elim c.if-call.branch [
+      | then-call+in_ok-filled+in_ok-improver w ↦
+          search-from I J call P w.in_ok-filled.filled s c.if-call.improver (w.improver-is ∙ w.in_ok-improver.ensures) same settings
+          (w.in_ok-filled.ensures.filled ∙ ap (λ (X : Draft). fill X s.hard P) same ∙ ap (λ b. started b s.hard I P) (sym w.if-call.true))
+      | else-call+in_ok-improver-2 w ↦
+          search-from I J call P P s c.if-call.improver (w.improver-is ∙ w.in_ok-improver-2.ensures) same settings
+          (ap (λ b. started b s.hard I P) (sym w.if-call.false))
+    ]

@@ -10,9 +10,8 @@ use Rattle.ih_answers.proofs.Saying.{ended}
 use Rattle.ih_planning.specs.Ends.{Leaves, NoCallEnds}
 use Rattle.ih_planning.specs.Explaining.{IsExplained, app_for}
 use Rattle.ih_planning.specs.Words.{call_of, command_call}
-use Rattle.ih_planning.proofs.CallEnds.{memory-leaves, no_call-answerable, untouched}
+use Rattle.ih_planning.proofs.CallEnds.{memory-leaves, no_call-answerable, one-few, untouched}
 use Rattle.ih_planning.proofs.Completeness.{complete, memory-complete}
-use Rattle.ih_planning.proofs.PutCounts.{one-few}
 use Rattle.ih_planning.proofs.running.run_planner.Goals as goal
 
 pub returns-in-Ok-clause-leaves : goal.returns-in-Ok-clause-leaves

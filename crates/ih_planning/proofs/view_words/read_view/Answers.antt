@@ -1,8 +1,8 @@
 use Rattle.std.proofs.Common.{codes, refl}
 use Rattle.clap.proofs.OnLiterals.{clap_on_literals}
-use Rattle.ih_words.specs.Arguments.{named}
-use Rattle.ih_words.specs.Distinct.{all_differ}
-use Rattle.ih_words.proofs.DescriptionRules.{requires_name}
+use Rattle.ih_arguments.specs.Arguments.{named}
+use Rattle.ih_arguments.specs.Distinct.{all_differ}
+use Rattle.ih_arguments.proofs.DescriptionRules.{requires_name}
 use Rattle.ih_planning.specs.View.{lawful_view, view_app}
 use Rattle.ih_planning.proofs.WordsRead.{explained-read}
 use Rattle.ih_planning.proofs.view_words.read_view.Goals as goal
@@ -19,5 +19,5 @@ view_in-view-requires c = record {
   third = c.in-Ok.ensures.texts 2 (named (codes "PAGE")) (requires_name refl);
 }
 
-pub returns-clause-read : goal.returns-clause-read
-returns-clause-read c = explained-read view_app _ _ lawful_view c.in-Err.error c.explained.result c.in-Err.ensures.faults c.explained.ensures
+pub returns : goal.returns
+returns c = explained-read view_app _ _ lawful_view c.in-Err.error c.explained.result c.in-Err.ensures.faults c.explained.ensures

@@ -1,4 +1,60 @@
+use Rattle.std.proofs.Common.{subst}
+use Rattle.std.specs.Prelude.{◌≢◌}
+use Rattle.ih_answers.specs.Answers.{HasShelfCause}
+use Rattle.ih_answers.proofs.Saying.{has-cause}
+use Rattle.ih_words.specs.Generate.{gen_call}
+use Rattle.ih_words.specs.Replay.{replay_call}
+use Rattle.ih_words.specs.Solve.{SolveCall, solve_call}
+use Rattle.ih_words.specs.Words.{OutDiffers, command_call}
+use Rattle.ih_words.specs.declared.command.Command.{Command}
+use Rattle.ih_top.specs.declared.journals.JournalUse.TheVariants.{Replay, Salvage}
+use Rattle.ih_top.specs.declared.searching.Method.TheVariants.{Moves, Chains, Rounds}
+use Rattle.ih_top.proofs.CommandEnds.{demo-ended, generated-ended}
+use Rattle.ih_top.proofs.JournalOutcomes.{journal-ended}
+use Rattle.ih_top.proofs.Methods.{searched-ended}
 use Rattle.ih_top.proofs.commands.perform.Goals as goal
 
+pub returns-in-Solve-clause-ends : goal.returns-in-Solve-clause-ends
+returns-in-Solve-clause-ends g c =
+    let s : SolveCall = solve_call c.in-Solve.call in
+    let differ : s.out ≢ s.journal = subst (λ (x : Command). OutDiffers (command_call x)) c.in-Solve.is c.requires.differ in
+    rw c.in-Solve.is (searched-ended Moves s differ _ _ _ _ _ _ c.search.ensures.ends)
+
+pub returns-in-Chain-clause-ends : goal.returns-in-Chain-clause-ends
+returns-in-Chain-clause-ends g c =
+    let s : SolveCall = solve_call c.in-Chain.chain.search in
+    let differ : s.out ≢ s.journal = subst (λ (x : Command). OutDiffers (command_call x)) c.in-Chain.is c.requires.differ in
+    rw c.in-Chain.is (searched-ended (Chains c.in-Chain.chain.length) s differ _ _ _ _ _ _ c.search-in-Chain.ensures.ends)
+
+pub returns-in-Rounds-clause-ends : goal.returns-in-Rounds-clause-ends
+returns-in-Rounds-clause-ends g c =
+    let s : SolveCall = solve_call c.in-Rounds.rounds.search in
+    let differ : s.out ≢ s.journal = subst (λ (x : Command). OutDiffers (command_call x)) c.in-Rounds.is c.requires.differ in
+    rw c.in-Rounds.is (searched-ended (Rounds c.in-Rounds.rounds.rounds) s differ _ _ _ _ _ _ c.search-in-Rounds.ensures.ends)
+
+pub returns-in-Replay-clause-ends : goal.returns-in-Replay-clause-ends
+returns-in-Replay-clause-ends g c = rw c.in-Replay.is (journal-ended Replay (replay_call c.in-Replay.call) _ _ _ _ _ _ c.perform.ensures.ends)
+
+pub returns-in-Salvage-clause-ends : goal.returns-in-Salvage-clause-ends
+returns-in-Salvage-clause-ends g c = rw c.in-Salvage.is (journal-ended Salvage (replay_call c.in-Salvage.call) _ _ _ _ _ _ c.perform-in-Salvage.ensures.ends)
+
+pub returns-in-Check-clause-ends : goal.returns-in-Check-clause-ends
+returns-in-Check-clause-ends g c = rw c.in-Check.is c.perform-in-Check.ensures.ends
+
+pub returns-in-Advise-clause-ends : goal.returns-in-Advise-clause-ends
+returns-in-Advise-clause-ends g c = rw c.in-Advise.is c.advise.ensures.ends
+
+pub returns-in-Gen-clause-ends : goal.returns-in-Gen-clause-ends
+returns-in-Gen-clause-ends g c =
+    rw c.in-Gen.is (generated-ended (gen_call c.in-Gen.call) c.generated_outcome-made.result _ _ c.generated_outcome-made.ensures.outcome _ _ _ _ c.finish.ensures.ends)
+
+pub returns-in-Demo-clause-ends : goal.returns-in-Demo-clause-ends
+returns-in-Demo-clause-ends g c =
+    let shelf = c.args.shelf.now in
+    rw c.in-Demo.is
+    (demo-ended c.in-Demo.number (g.S.Shelf.names shelf) (HasShelfCause g.S.Shelf shelf shelf) _ _ c.demo-answer.result c.conclude.result c.demo-answer.ensures.ends
+    (c.demo-answer.ensures.cause _ _) c.conclude.ensures.said)
+
 pub returns-in-Demo-clause-cause : goal.returns-in-Demo-clause-cause
-returns-in-Demo-clause-cause g c = c.demo.ensures.cause _ _
+returns-in-Demo-clause-cause g c =
+    has-cause _ _ _ _ _ _ _ _ c.demo-answer.result.status c.conclude.result (c.demo-answer.ensures.cause _ _) c.conclude.ensures.cause

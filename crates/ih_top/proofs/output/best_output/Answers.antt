@@ -1,4 +1,4 @@
-use Rattle.ih_history.proofs.LegalEntries.{moves-in}
+use Rattle.ih_cellbook.proofs.LegalEntries.{moves-in}
 use Rattle.ih_journal.specs.Tried.{tries}
 use Rattle.ih_desk.specs.Searching.{base_given}
 use Rattle.ih_top.proofs.output.best_output.Goals as goal

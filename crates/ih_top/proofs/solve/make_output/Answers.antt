@@ -4,7 +4,7 @@ use Rattle.ih_journal.specs.Best.{BestIs}
 use Rattle.ih_journal.specs.Legal.{AreLegal, IsFull}
 use Rattle.ih_journal.specs.Tried.{tries}
 use Rattle.ih_desk.specs.Searching.{base_given}
-use Rattle.ih_history.proofs.LegalEntries.{prices-in}
+use Rattle.ih_cellbook.proofs.LegalEntries.{prices-in}
 use Rattle.ih_top.specs.Histories.{IsSound}
 use Rattle.ih_top.proofs.solve.make_output.Goals as goal
 

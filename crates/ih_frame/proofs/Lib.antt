@@ -1,0 +1,4 @@
+pub mod CommandEnds
+pub mod Complete
+pub mod Leaving
+pub mod StepByStep

@@ -1,0 +1,17 @@
+use Rattle.ih_answers.specs.Answers.{HasShelfCause}
+use Rattle.ih_answers.specs.Ends.{Received}
+use Rattle.ih_answers.specs.Texts.{ReceivedPart}
+use Rattle.ih_answers.proofs.Saying.{ended}
+use Rattle.ih_frame.specs.Ends.{MadeEnds}
+use Rattle.ih_frame.proofs.CommandEnds.{made-answerable}
+use Rattle.ih_frame.proofs.performing.finish.Goals as goal
+
+pub returns-clause-ends : goal.returns-clause-ends
+returns-clause-ends g c =
+    let a = c.carry_out-answer in
+    let old = g.S.Shelf.names c.args.shelf.now in
+    let new = g.S.Shelf.names a.new.shelf in
+    ended (MadeEnds c.args.made old new) (made-answerable c.args.made old new) (HasShelfCause g.S.Shelf c.args.shelf.now a.new.shelf)
+    (Received c.conclude.result (g.O.Sink.text c.args.out.now) (g.O.Sink.text c.conclude.new.out) (g.O.Sink.faults c.args.out.now) (g.O.Sink.faults c.conclude.new.out))
+    (ReceivedPart (g.O.Sink.text c.args.out.now) (g.O.Sink.text c.conclude.new.out) (g.O.Sink.lacks c.args.out.now) (g.O.Sink.lacks c.conclude.new.out))
+    a.result c.conclude.result a.ensures.ends a.ensures.cause c.conclude.ensures.said

@@ -1,0 +1,49 @@
+//! A call that goes on in steps, from the first to its status.
+
+ghost use Rattle.std.specs.Prelude.{◌≡◌, ◌+◌};
+ghost use Rattle.ih_shelf.specs.Outside.{IfTold};
+ghost use Rattle.ih_answers.specs.Answers.{HasShelfCause};
+ghost use Rattle.ih_answers.specs.{Ends.Ends, Ends.HasCause, Ends.Received, Texts.ReceivedPart};
+ghost use Rattle.ih_frame.specs.Steps.{ArePutsAtMost, StepsEnds};
+
+use crate::performing::finish;
+use crate::steps::Steps;
+use ih_answers::Status;
+use ih_shelf::{Shelf, Sink};
+use std::alloc::Global;
+use std::rt::Files;
+use std::sync::Wait;
+use std::thread::Threads;
+
+/// Takes all steps, and ends. Each writes its files and then puts its text, before the next one is taken. Where one
+/// can't be done or said, the call ends there.
+pub fn go_on<'a, R: Files + Print + Threads + Wait + Sync, P: Steps<'a>, S: Shelf, O: Sink>(
+    rt: &R,
+    alloc: Global,
+    steps: &mut P,
+    count: u32,
+    shelf: &mut S,
+    out: &mut O,
+) -> Status
+    requires lawful { P.is_lawful steps.old }
+    requires count { P.left steps.old ≡ count }
+    ensures ends { Ends
+        (StepsEnds (P.steps_to (P.task steps.old)) P.ends_as count (P.state steps.old)
+        (S.names shelf.old) (S.names shelf.new))
+        (HasShelfCause S.Shelf shelf.old shelf.new)
+        (Received result (O.text out.old) (O.text out.new) (O.faults out.old) (O.faults out.new))
+        (ReceivedPart (O.text out.old) (O.text out.new) (O.lacks out.old) (O.lacks out.new)) result }
+    ensures few { IfTold (ArePutsAtMost (count + 1)) (O.puts out.old) (O.puts out.new) }
+    ensures cause { HasCause (S.read_faults shelf.old) (S.read_faults shelf.new) (S.write_faults shelf.old)
+        (S.write_faults shelf.new) (O.faults out.old) (O.faults out.new) result }
+{
+    for _ in 0..count {
+        let made = steps.step(rt, alloc);
+        match finish(rt, alloc, made, shelf, out) {
+            Status::Done => {}
+            status => return status,
+        }
+    }
+    let made = steps.end(alloc);
+    finish(rt, alloc, made, shelf, out)
+}

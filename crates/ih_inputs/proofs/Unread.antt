@@ -1,0 +1,33 @@
+-- Why a solution's file gives no timetable, as why the files of a call can't be had.
+use Rattle.std.proofs.Common.{◌≡◌, ℕ, List, Option, refl, subst, sym}
+use Rattle.std.specs.Prelude.{IfSome}
+use Rattle.ih_tables.specs.declared.drafts.Draft.{Draft}
+use Rattle.ih_shelf.specs.Outside.{Names}
+use Rattle.ih_shelf.specs.declared.outside.ReadError.{ReadError}
+use Rattle.ih_shelf.specs.declared.outside.ReadError.TheVariants.{Fault as Unreadable, TooLong as Long, OutOfMemory as NoRoom}
+use Rattle.ih_inputs.specs.Errors.{error_of_file}
+use Rattle.ih_inputs.specs.declared.reading.TheConstants.{MAX_JOURNAL}
+use Rattle.ih_inputs.specs.declared.error.InputError.{InputError}
+use Rattle.ih_inputs.specs.declared.error.InputError.TheVariants.{ReadFault, TooLong, OutOfMemory}
+use Rattle.ih_inputs.specs.declared.error.InputRole.TheVariants.{Journal, Older, Solution}
+use Rattle.ih_inputs.specs.Reading.{InputFiles, IsJournalNext, IsLongerThan, IsNext, IsNoPlan, IsOlderNext, IsUnread}
+
+module _ (files : Option Names) (r : InputFiles) (I : Draft) (name : List ℕ) where
+  pub plan_unread : IsNext files r I name → (e : InputError) → IsNoPlan Solution files name I e → IsUnread files r e
+  plan_unread next (ReadFault of) is = subst (λ role. IsUnread files r (ReadFault role)) (sym is) (I, name, next)
+  plan_unread next (TooLong of) (is, long) = subst (λ role. IsUnread files r (TooLong role)) (sym is) (I, name, next, long)
+  plan_unread next OutOfMemory h = tt
+  plan_unread next error h = subst (IsUnread files r) (sym h.1) (I, name, next, h.2)
+
+  pub older_unread : IsOlderNext files r I name → (e : InputError) → IsNoPlan Older files name I e → IsUnread files r e
+  older_unread next (ReadFault of) is = subst (λ role. IsUnread files r (ReadFault role)) (sym is) (I, name, next)
+  older_unread next (TooLong of) (is, long) = subst (λ role. IsUnread files r (TooLong role)) (sym is) (I, name, next, long)
+  older_unread next OutOfMemory h = tt
+  older_unread next error h = subst (IsUnread files r) (sym h.1) (I, name, next, h.2)
+
+-- why a journal gives no bytes
+pub journal_unread : (files : Option Names) (r : InputFiles) (name : List ℕ) → IsJournalNext files r name → (e : ReadError)
+    → (e ≡ Long → IfSome files (IsLongerThan MAX_JOURNAL name)) → IsUnread files r (error_of_file Journal e)
+journal_unread files r name next Unreadable long = (name, next)
+journal_unread files r name next Long long = (name, next, long refl)
+journal_unread files r name next NoRoom long = tt
