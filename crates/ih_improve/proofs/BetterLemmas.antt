@@ -8,7 +8,7 @@ use Rattle.ih_tables.specs.declared.drafts.Draft.{Draft}
 use Rattle.ih_tables.specs.Bills.{cost, feasible, score}
 use Rattle.ih_plan.specs.Timetable.{Timetable, IsPlanOf}
 use Rattle.ih_plan.specs.BillOf.{bill_of}
-use Rattle.ih_journal.specs.Frozen.{KeepsFrozen}
+use Rattle.ih_plan.specs.Frozen.{KeepsFrozen}
 use Rattle.ih_improve.specs.Better.{best_of, better_of, is_better}
 use Rattle.ih_improve.specs.Following.{IsNoDearer, MayFollow}
 

@@ -4,7 +4,7 @@ use Rattle.std.specs.Prelude.{slice_get, Some}
 use Rattle.ih_plan.specs.Timetable.{Timetable}
 use Rattle.ih_improve.specs.Better.{best_of}
 use Rattle.ih_improve.specs.ImproverState.{ImproverState, Leads, led_to, leg_of}
-use Rattle.ih_improve.specs.Laws.{IsDetermined, Lead}
+use Rattle.ih_improve.specs.Laws.{IsDetermined, IsDeterminedByRounds, Lead, LeadOn}
 use Rattle.ih_improve.specs.Legs.{LegState}
 
 -- lists of one length are equal that are equal at each place
@@ -33,4 +33,18 @@ module _ (leaves : LegState → ℕ → Timetable → Type 0) (determined : IsDe
   all-rounds v (P ∷ Ps) (Q ∷ Qs) len first second =
       let head : P ≡ Q = one-round v P Q first.0 second.0 in
       let tail : Ps ≡ Qs = all-rounds (led_to v P) Ps Qs (omega (arith, len)) first.1 (subst (λ R. Lead leaves (led_to v R) Qs) (sym head) second.1) in
+      ap (λ R. R ∷ Ps) head ∙ ap (λ Rs. Q ∷ Rs) tail
+
+-- the same where workers go on from where their rounds so far left them
+module _ (leaves : List LegState → ℕ → Timetable → Type 0) (determined : IsDeterminedByRounds leaves) where
+  pub all-rounds-on : (past : List LegState) (v : ImproverState) (Ps Qs : List Timetable) → length Ps ≡ length Qs → LeadOn leaves past v Ps → LeadOn leaves past v Qs
+      → Ps ≡ Qs
+  all-rounds-on past v [] [] len first second = refl
+  all-rounds-on past v [] (Q ∷ Qs) len first second = absurd (omega (arith, len))
+  all-rounds-on past v (P ∷ Ps) [] len first second = absurd (omega (arith, len))
+  all-rounds-on past v (P ∷ Ps) (Q ∷ Qs) len first second =
+      let head : P ≡ Q = one-round (λ s. leaves (s ∷ past)) (λ s. determined (s ∷ past)) v P Q first.0 second.0 in
+      let tail : Ps ≡ Qs =
+      all-rounds-on (leg_of v ∷ past) (led_to v P) Ps Qs (omega (arith, len)) first.1
+      (subst (λ R. LeadOn leaves (leg_of v ∷ past) (led_to v R) Qs) (sym head) second.1) in
       ap (λ R. R ∷ Ps) head ∙ ap (λ Rs. Q ∷ Rs) tail

@@ -18,8 +18,8 @@ use Rattle.ih_plan.specs.Presence.{day_of}
 use Rattle.ih_plan.specs.Series.{after_all}
 use Rattle.ih_plan.specs.Timetable.{Timetable, IsPlanOf, choice_of, stay_of}
 use Rattle.ih_plan.proofs.PlanRanges.{after-plan, expand-writes}
-use Rattle.ih_journal.specs.Frozen.{KeepsFrozen, is_before, is_frozen_write}
-use Rattle.ih_journal.proofs.Freezing.{agrees-put_all, neither}
+use Rattle.ih_plan.specs.Frozen.{KeepsFrozen, is_before, is_frozen_write}
+use Rattle.ih_plan.proofs.Freezing.{agrees-put_all, neither}
 use Rattle.ih_improve.specs.Frozen.{may_be_frozen}
 
 both : (a b : Bool) → a ≡ false → b ≡ false → (a || b) ≡ false

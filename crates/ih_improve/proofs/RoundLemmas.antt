@@ -2,17 +2,17 @@
 use Rattle.std.proofs.Common.{◌≡◌, ℕ, zero, suc, ◌+◌, ◌<◌, refl, sym, ap, ◌∙◌, subst, arith, List, [], ◌∷◌, ◌++◌, length, take, drop, map, get_or, Some, None}
 use Rattle.std.specs.Prelude.{All, slice_get, slice_index_or}
 use Rattle.std.proofs.lemmas.List.{map-append, take-append-le, take_all, take_more}
-use Rattle.std.proofs.lemmas.List.Elements.{All-nil, All-cons}
+use Rattle.std.proofs.lemmas.List.Elements.{All-nil, All-cons, All-weaker}
 use Rattle.std.proofs.lemmas.List.Sums.{fold_push}
 use Rattle.ih_tables.specs.declared.bills.Bill.{Bill}
 use Rattle.ih_tables.specs.declared.drafts.Draft.{Draft}
-use Rattle.ih_plan.specs.Timetable.{Timetable}
+use Rattle.ih_plan.specs.Timetable.{Timetable, IsPlanOf}
 use Rattle.ih_plan.specs.BillOf.{bill_of}
 use Rattle.ih_improve.specs.declared.workers.ImproveWorker.{ImproveWorker}
 use Rattle.ih_improve.specs.Better.{best_of, better_of}
-use Rattle.ih_improve.specs.Following.{IsNoDearer, MayFollow}
+use Rattle.ih_improve.specs.Following.{IsNoDearer, MayFollow, MayStand}
 use Rattle.ih_improve.specs.ImproverState.{ImproverState, Leads, led_to, leg_of}
-use Rattle.ih_improve.specs.Keeping.{IsKeeping, IsOf, best_met}
+use Rattle.ih_improve.specs.Keeping.{IsKeeping, IsOf, StandsOn, StandsWell, best_met}
 use Rattle.ih_improve.specs.Legs.{IsLeg, Leaves}
 use Rattle.ih_improve.proofs.BetterLemmas.{best-follows, follows-through, no_dearer-same}
 
@@ -41,6 +41,20 @@ best-more I hard P ws i x h is =
     ∙ (ap (best_of I hard P) (map-append best_met (take i ws) (x ∷ []))
     ∙ fold_push (better_of I hard) P (map best_met (take i ws)) (best_met x))
 
+-- the start may be stood on
+pub start-stands : (I : Draft) (start : Timetable) (freeze : ℕ) → IsPlanOf I start → MayStand I start freeze start
+start-stands I start freeze plan = record {
+  plan = plan;
+  frozen = record { admitted = λ p h. refl; others = λ p h. h; nurses = λ r k rh kh before. refl };
+}
+
+-- so may all workers that stand on it
+pub all-stand : (I : Draft) (start : Timetable) (freeze : ℕ) (ws : List ImproveWorker) → IsPlanOf I start → All (StandsOn start) ws
+    → All (StandsWell I start freeze) ws
+all-stand I start freeze ws plan =
+    All-weaker (StandsOn start) (StandsWell I start freeze)
+    (λ w is. subst (MayStand I start freeze) (sym is) (start-stands I start freeze plan)) ws
+
 -- what a round begins with
 pub begins : (v : ImproverState) (bill : Bill) (ws : List ImproveWorker) → IsKeeping v bill ws → v.rounds < v.settings.rounds → IsLeg (leg_of v) bill
 begins v bill ws keeping more = record {
@@ -53,9 +67,13 @@ begins v bill ws keeping more = record {
 
 module _ (v : ImproverState) (bill : Bill) (old new : List ImproveWorker) (keeping : IsKeeping v bill old) (len : length new ≡ length old)
     (same : (k : ℕ) (d : ImproveWorker) → k < length old → (slice_index_or new k d).walker.instance ≡ v.instance)
+    (stands : (k : ℕ) (d : ImproveWorker) → k < length old → StandsWell v.instance v.start v.settings.freeze (slice_index_or new k d))
     (left : (k : ℕ) (d : ImproveWorker) → k < length old → Leaves (leg_of v) k (best_met (slice_index_or new k d))) where
   pub all-of : All (IsOf v.instance) new
   all-of = all-each (IsOf v.instance) new (λ k d h. same k d (omega (arith, h, len)))
+
+  all-well : All (StandsWell v.instance v.start v.settings.freeze) new
+  all-well = all-each (StandsWell v.instance v.start v.settings.freeze) new (λ k d h. stands k d (omega (arith, h, len)))
 
   leaves-each : (w : ℕ) (Q : Timetable) → slice_get (map best_met new) w ≡ Some Q → Leaves (leg_of v) w Q
   leaves-each w Q there =
@@ -96,4 +114,5 @@ module _ (v : ImproverState) (bill : Bill) (old new : List ImproveWorker) (keepi
     bill_is = billed;
     count = len ∙ keeping.count;
     instance = all-of;
+    stands = all-well;
   }

@@ -4,7 +4,7 @@ use Rattle.ih_plan.specs.declared.moves.Move.{Move}
 use Rattle.ih_plan.specs.Timetable.{IsPlanOf}
 use Rattle.ih_plan.specs.Series.{AreMoves, after_all}
 use Rattle.ih_plan.proofs.Series.{after_all-plan}
-use Rattle.ih_journal.specs.Frozen.{KeepsFrozen}
+use Rattle.ih_plan.specs.Frozen.{KeepsFrozen}
 use Rattle.ih_improve.specs.Better.{better_of}
 use Rattle.ih_improve.specs.Legs.{LegState}
 use Rattle.ih_improve.specs.WalkerState.{IsUnderway, WalkerState}

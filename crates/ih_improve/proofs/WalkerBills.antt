@@ -33,6 +33,9 @@ pub best-within : (I : Draft) (l : LedgersState) (left_best : Timetable) (here :
 best-within I l left_best here bill best valid are =
     rw are.best_is (bill-within I (best_at here l.plan left_best) valid (best-fits I here l.plan left_best are.now are.left_best_fits))
 
+pub now-within : (I : Draft) (l : LedgersState) (left_best : Timetable) (here : Bool) (bill best : Bill) → IsValid I → AreBills I l left_best here bill best → IsWithin (10 ^ 11) bill
+now-within I l left_best here bill best valid are = rw are.bill_is (bill-within I l.plan valid are.now)
+
 -- moves in a row with a price, made where the ledgers stand
 module _ (I : Draft) (valid : IsValid I) (hard : ℕ) (l : LedgersState) (left_best : Timetable) (here : Bool) (bill best : Bill) (are : AreBills I l left_best here bill best)
     (ms : List Move) (inside : AreMoves I ms) (price : Bill) (priced : price ≡ price_of_all I l.plan ms) where

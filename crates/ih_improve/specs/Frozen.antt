@@ -4,7 +4,7 @@ use Rattle.ih_plan.specs.declared.moves.Move.{Move}
 use Rattle.ih_plan.specs.declared.moves.Move.TheVariants.{Idle, Place, Withdraw, SetDay, SetRoom, SetTheatre, SwapRooms, Nurse, NurseRun, SwapNurses}
 use Rattle.ih_plan.specs.Presence.{day_of}
 use Rattle.ih_plan.specs.Timetable.{Timetable, stay_of}
-use Rattle.ih_journal.specs.Frozen.{is_before}
+use Rattle.ih_plan.specs.Frozen.{is_before}
 
 -- The move is of a patient whom the start admits before the freeze day, to a day before it, or of a nurse in a shift
 -- before it. It goes by the start and the move alone, so it says yes of some moves that would change nothing there.

@@ -4,7 +4,7 @@ use Rattle.ih_tables.specs.declared.drafts.Draft.{Draft}
 use Rattle.ih_plan.specs.Timetable.{Timetable}
 use Rattle.ih_improve.specs.declared.defaults.Defaults.{Defaults}
 use Rattle.ih_improve.specs.Defaults.{AreDefaults}
-use Rattle.ih_improve.specs.ImproverState.{ImproverState, Leads, led_to}
+use Rattle.ih_improve.specs.ImproverState.{ImproverState, Leads, led_to, leg_of}
 use Rattle.ih_improve.specs.Legs.{LegState}
 
 -- what a worker leaves follows from what the round begins with and from its number
@@ -21,6 +21,25 @@ abbrev pub RoundsAreDetermined : (LegState → ℕ → Timetable → Type 0) →
 RoundsAreDetermined leaves =
     IsDetermined leaves → (v : ImproverState) (Ps Qs : List Timetable) → length Ps ≡ length Qs → Lead leaves v Ps
     → Lead leaves v Qs
+    → Ps ≡ Qs
+
+-- what a worker leaves follows from what its rounds so far began with, the last first, and from its number
+abbrev pub IsDeterminedByRounds : (List LegState → ℕ → Timetable → Type 0) → Type 0
+IsDeterminedByRounds leaves =
+    (ss : List LegState) (w : ℕ) (P Q : Timetable) → leaves ss w P → leaves ss w Q → P ≡ Q
+
+-- the timetables to which further rounds lead, of workers that go on from where their rounds so far left them
+abbrev pub LeadOn : (List LegState → ℕ → Timetable → Type 0) → List LegState → ImproverState → List Timetable → Type 0
+LeadOn leaves past v [] = Unit {0}
+LeadOn leaves past v (P ∷ Ps) =
+    Leads (λ s. leaves (s ∷ past)) v P × LeadOn leaves (leg_of v ∷ past) (led_to v P) Ps
+
+-- the same of such workers
+abbrev pub RoundsOnAreDetermined : (List LegState → ℕ → Timetable → Type 0) → Type 0
+RoundsOnAreDetermined leaves =
+    IsDeterminedByRounds leaves → (v : ImproverState) (Ps Qs : List Timetable) → length Ps ≡ length Qs
+    → LeadOn leaves [] v Ps
+    → LeadOn leaves [] v Qs
     → Ps ≡ Qs
 
 -- an instance has one set of defaults

@@ -1,6 +1,6 @@
 -- The limits of a search's settings, and how its attempts are dealt to rounds.
 use Rattle.std.specs.Prelude.{ℕ, ◌*◌, ◌/◌, ◌≤◌}
-use Rattle.ih_journal.specs.declared.settings.TheConstants.{MAX_HARD, MAX_HEAT, MAX_WORKERS}
+use Rattle.ih_plan.specs.declared.limits.TheConstants.{MAX_HARD, MAX_HEAT, MAX_WORKERS}
 use Rattle.ih_improve.specs.declared.settings.Settings.{Settings}
 use Rattle.ih_improve.specs.declared.settings.TheConstants.{MAX_ATTEMPTS, MAX_ROUNDS}
 

@@ -4,7 +4,7 @@ use Rattle.ih_tables.specs.declared.bills.Bill.{Bill}
 use Rattle.ih_tables.specs.declared.drafts.Draft.{Draft}
 use Rattle.ih_plan.specs.Timetable.{Timetable, IsPlanOf}
 use Rattle.ih_plan.specs.BillOf.{bill_of}
-use Rattle.ih_journal.specs.Frozen.{KeepsFrozen}
+use Rattle.ih_plan.specs.Frozen.{KeepsFrozen}
 use Rattle.ih_costs.specs.LedgersState.{LedgersState}
 use Rattle.ih_improve.specs.Following.{MayFollow}
 use Rattle.ih_improve.specs.Legs.{LegState}

@@ -4,7 +4,7 @@ ghost use Rattle.std.specs.Prelude.{◌≡◌, ◌≤◌, if◌then◌else◌, l
 ghost use Rattle.ih_improve.specs.Defaults.{AreDefaults, IsGreatest, IsMiddle, count_above, count_up_to, has_half};
 ghost use Rattle.ih_improve.specs.Defaults.{weights_of};
 
-use ih_journal::{MAX_HARD, MAX_HEAT};
+use ih_plan::{MAX_HARD, MAX_HEAT};
 use ih_tables::Instance;
 
 /// Settings that come from the weights of an instance. They rise with the weights.

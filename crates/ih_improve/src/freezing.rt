@@ -3,13 +3,12 @@
 ghost use Rattle.std.specs.Prelude.{◌≡◌, ◌<◌, false};
 ghost use Rattle.ih_plan.specs.{Timetable.Timetable, Timetable.IsPlanOf, Expand.IsMoveOf};
 ghost use Rattle.ih_plan.specs.Series.{AreMoves, after_all};
-ghost use Rattle.ih_journal.specs.Frozen.{KeepsFrozen, is_before};
+ghost use Rattle.ih_plan.specs.Frozen.{KeepsFrozen, is_before};
 ghost use Rattle.ih_plan.specs.Timetable.{stay_of};
 ghost use Rattle.ih_tables.specs.Sizes.{patient_count};
 ghost use Rattle.ih_improve.specs.Frozen.{may_be_frozen};
 
-use ih_journal::frozen;
-use ih_plan::{Move, Plan, Write};
+use ih_plan::{Move, Plan, Write, frozen};
 use ih_tables::{Instance, PatientNo};
 
 // Whether the start admits the patient before the freeze day.

@@ -1,26 +1,128 @@
-//! The heat of each attempt. Nothing rests on it.
+//! The heat of each attempt, and what a broken rule weighs in a round. Nothing rests on either.
 
-ghost use Rattle.std.specs.Prelude.{◌≤◌, ◌^◌};
-ghost use Rattle.ih_improve.specs.Settings.{IsLawful};
+ghost use Rattle.std.specs.Prelude.{◌<◌, ◌≤◌, ◌^◌};
 
+use crate::defaults::Defaults;
+use crate::legs::Leg;
 use crate::logarithms::{logarithm, power};
-use crate::settings::Settings;
+use crate::settings::{MAX_ATTEMPTS, Settings};
+use ih_plan::MAX_HARD;
+use ih_tables::Instance;
+
+// With so many persons or fewer each worker begins at the weight of a patient who is left out.
+const FEW_PERSONS: u64 = 40;
+// Of so many workers the second begins there on every ward.
+const WORKERS_A_HOT_ONE: usize = 4;
+
+/// Heats that fall geometrically from one to another.
+#[derive(Clone, Copy)]
+pub(crate) struct Cooling {
+    /// The first heat, in units of the score.
+    pub(crate) hot: u32,
+    /// The last heat.
+    pub(crate) cold: u32,
+    /// The number of the attempt that has the first heat.
+    pub(crate) from: u64,
+    /// After so many attempts it is the last heat.
+    pub(crate) attempts: u64,
+}
 
 // A heat in 65536ths.
 fn in_parts(heat: u32) -> u64 {
     (u64::from(heat) * 65536).max(8192)
 }
 
-/// The heat once a worker has made so many attempts, in 65536ths of a unit of the score: it falls geometrically from
-/// `hot` to `cold` over all attempts. A heat of 0 stands for an eighth of a unit, at which hardly anything dearer is
-/// accepted.
-pub(crate) fn heat_at(settings: &Settings, done: u64) -> u64
-    requires lawful { IsLawful settings.now }
-    requires done { done ≤ settings.now.attempts }
-    ensures { result ≤ 2 ^ 37 }
+// What of a fall is done after so many of all attempts.
+fn share_of(fall: u64, made: u64, attempts: u64) -> u64
+    requires fall { fall < 2 ^ 22 }
+    requires made { made ≤ MAX_ATTEMPTS }
 {
-    let hot = logarithm(in_parts(settings.hot));
-    let cold = logarithm(in_parts(settings.cold));
-    let fallen = hot.saturating_sub(cold) * done / settings.attempts.max(1);
-    power(hot.saturating_sub(fallen))
+    fall * made / attempts.max(1)
+}
+
+impl Cooling {
+    /// The heat at an attempt, in 65536ths of a unit of the score. A heat of 0 stands for an eighth of a unit, at which
+    /// hardly anything dearer is accepted.
+    pub(crate) fn at(&self, attempt_no: u64) -> u64
+        ensures { result ≤ 2 ^ 37 }
+    {
+        let hot = logarithm(in_parts(self.hot));
+        let cold = logarithm(in_parts(self.cold));
+        let made = attempt_no.saturating_sub(self.from).min(MAX_ATTEMPTS);
+        power(hot.saturating_sub(share_of(hot.saturating_sub(cold), made, self.attempts)))
+    }
+}
+
+// The heat from which a worker leaves a start behind on a ward like this: the weight of a patient who is left out, and
+// less for most workers where there are many persons, since attempts are then scarce.
+fn heat_of_ward(inst: &Instance, worker_no: usize) -> u32 {
+    let left_out = inst.weights().w[7].unsigned_abs().min(100_000);
+    if worker_no % WORKERS_A_HOT_ONE == 1 {
+        return left_out as u32;
+    }
+    let persons = u64::from(inst.persons()).max(FEW_PERSONS).min(10_000);
+    let less = left_out * (FEW_PERSONS * FEW_PERSONS) / (persons * persons).max(1);
+    less.min(left_out) as u32
+}
+
+// The heat at a worker's first attempt. Where both heats are those of the weights it is that of the ward, if that is
+// more.
+fn first_heat(inst: &Instance, settings: &Settings, worker_no: usize) -> u32 {
+    let usual = Defaults::by_weights(inst);
+    if settings.hot == usual.hot && settings.cold == usual.cold {
+        settings.hot.max(heat_of_ward(inst, worker_no))
+    } else {
+        settings.hot
+    }
+}
+
+/// The heats of a worker, once it has made so many attempts: they fall over all attempts. Where nothing feasible is
+/// found in half of them, they fall a second time over the others.
+pub(crate) fn cooling_of(
+    inst: &Instance,
+    settings: &Settings,
+    worker_no: usize,
+    done: u64,
+    is_found: bool,
+) -> Cooling {
+    let half = settings.attempts / 2;
+    let from = if is_found || done < half { 0 } else { half };
+    Cooling {
+        hot: first_heat(inst, settings, worker_no),
+        cold: settings.cold,
+        from,
+        attempts: settings.attempts - from,
+    }
+}
+
+// What a unit of a broken rule weighs in a round for what is accepted: more in each as long as nothing feasible is found.
+fn hard_of(settings: &Settings, round: u32, is_found: bool) -> u32
+    ensures { result ≤ 1000000 }
+{
+    let times = if is_found { 1 } else { u64::from(round) + 1 };
+    (u64::from(settings.hard) * times).min(u64::from(MAX_HARD)) as u32
+}
+
+/// How a worker goes about a round.
+#[derive(Drop)]
+pub(crate) struct Pace {
+    pub(crate) cooling: Cooling,
+    /// What a unit of a broken rule weighs for what is accepted.
+    pub(crate) hard: u32,
+    /// By so much an attempt may miss what is accepted where cheaper nurses are tried: twice the middle weight.
+    pub(crate) reach: i64,
+    pub(crate) ghost hard_fits: { hard ≤ 1000000 },
+}
+
+impl Pace {
+    /// The pace of a worker in a round, before which it has made so many attempts.
+    pub(crate) fn of_round(leg: &Leg<'_>, worker_no: usize, done: u64) -> Pace {
+        let (inst, settings) = (leg.instance(), leg.settings());
+        let is_found = leg.bill().feasible();
+        Pace {
+            cooling: cooling_of(inst, settings, worker_no, done, is_found),
+            hard: hard_of(settings, leg.round(), is_found),
+            reach: i64::from(Defaults::by_weights(inst).hot),
+        }
+    }
 }

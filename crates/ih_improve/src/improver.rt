@@ -4,10 +4,10 @@ ghost use Rattle.std.specs.Prelude.{◌≡◌, ◌≤◌, false, IfOk, All, leng
 ghost use Rattle.ih_plan.specs.Timetable.{IsPlanOf};
 ghost use Rattle.ih_plan.specs.BillOf.{bill_of};
 ghost use Rattle.ih_improve.specs.Better.{best_of, better_of, is_better};
-ghost use Rattle.ih_improve.specs.Keeping.{IsOf, best_met};
+ghost use Rattle.ih_improve.specs.Keeping.{IsOf, StandsOn, best_met};
 
 use crate::comparing::is_better;
-use crate::heats::heat_at;
+use crate::heats::cooling_of;
 use crate::legs::Leg;
 use crate::rounds::walk_all;
 use crate::settings::Settings;
@@ -71,6 +71,7 @@ fn new_workers<'a>(
     requires bill { bill.now ≡ bill_of inst.now.draft plan.now }
     ensures count { IfOk result (λ ws. length ws.items ≡ count) }
     ensures instance { IfOk result (λ ws. All (IsOf inst.entry.now.draft) ws.items) }
+    ensures stands { IfOk result (λ ws. All (StandsOn plan.now) ws.items) }
 {
     let mut workers = Vec::with_capacity(alloc, count as usize)?;
     for _ in 0..count {
@@ -160,9 +161,9 @@ impl<'a> Improver<'a> {
         })
     }
 
-    /// One round: each worker goes on from the best timetable so far by attempts of its own, in a thread of its own
-    /// where one can be started, and the best of all is kept. It is never dearer than the one before. Answers whether
-    /// it is better than that; else it is the same.
+    /// One round: each worker goes on from its own timetable, or from the best so far, by attempts of its own, in a
+    /// thread of its own where one can be started, and the best of all is kept. It is never dearer than the one before.
+    /// Answers whether it is better than that; else it is the same.
     pub fn round<R: Threads + Sync>(&mut self, rt: &R) -> bool
         requires { self.old.rounds < self.old.settings.rounds }
         ensures search { self.new ≡ led_to self.old self.new.kept }
@@ -222,10 +223,12 @@ impl<'a> Improver<'a> {
         u64::from(self.settings.workers) * self.settings.attempts_through(self.rounds)
     }
 
-    /// The heat at which the next round begins, or at which the last one ended. It is for showing alone.
+    /// The first worker's heat as the next round begins, or as the last one ended. It is for showing alone.
     pub fn heat(&self) -> u32
         ensures { result ≤ 2 ^ 21 }
     {
-        (heat_at(&self.settings, self.settings.attempts_through(self.rounds)) / 65536) as u32
+        let done = self.settings.attempts_through(self.rounds);
+        let cooling = cooling_of(self.inst, &self.settings, 0, done, self.bill.feasible());
+        (cooling.at(done) / 65536) as u32
     }
 }

@@ -1,4 +1,4 @@
-//! The search for better plans: rounds of workers side by side, each by attempts of its own from the best plan so far.
+//! The search for better plans: rounds of workers side by side, each by attempts of its own.
 #![tactic(auto)]
 
 mod accepting;
@@ -17,7 +17,10 @@ mod workers;
 
 pub use defaults::Defaults;
 pub use improver::Improver;
-pub use laws::{defaults_are_determined, determined_workers_make_determined_rounds};
+pub use laws::{
+    GoesOn, defaults_are_determined, determined_workers_make_determined_rounds,
+    workers_that_go_on_make_determined_rounds,
+};
 pub use legs::Leg;
 pub use rounds::Walks;
 pub use settings::{MAX_ATTEMPTS, MAX_ROUNDS, Settings};

@@ -1,6 +1,6 @@
 //! What a search is asked to do, and its limits.
 
-use ih_journal::{MAX_HARD, MAX_HEAT, MAX_WORKERS};
+use ih_plan::{MAX_HARD, MAX_HEAT, MAX_WORKERS};
 
 /// The most attempts of all workers together.
 pub const MAX_ATTEMPTS: u64 = 1_000_000_000_000;
@@ -8,7 +8,7 @@ pub const MAX_ATTEMPTS: u64 = 1_000_000_000_000;
 pub const MAX_ROUNDS: u32 = 10_000;
 
 /// What a search is asked to do. The most workers, the highest heat and the highest weight of a broken rule are
-/// `MAX_WORKERS`, `MAX_HEAT` and `MAX_HARD` of `ih_journal`.
+/// `MAX_WORKERS`, `MAX_HEAT` and `MAX_HARD` of `ih_plan`.
 #[derive(Clone, Copy, Debug, PartialEq, Eq)]
 pub struct Settings {
     /// Each worker's random words in each round begin from this, the round and the worker's number.
@@ -17,7 +17,7 @@ pub struct Settings {
     pub workers: u32,
     /// How many attempts each worker makes, over all rounds.
     pub attempts: u64,
-    /// How often the best plan of all goes out to all.
+    /// After how many parts of the attempts the best plan of all is looked for.
     pub rounds: u32,
     /// The heat at the first attempt, in units of the score. It falls to `cold` with the attempts of all rounds.
     pub hot: u32,

@@ -103,6 +103,25 @@ impl<'a> Walker<'a> {
         self.best_bill = *bill;
     }
 
+    /// Stays where it stands, and has another timetable as the best so far.
+    pub(crate) fn begin_with_best(&mut self, best: &Plan, bill: &Bill)
+        requires plan { IsPlanOf self.old.instance best.now }
+        requires bill { bill.now ≡ bill_of self.old.instance best.now }
+        ensures { self.new ≡ record { instance = self.old.instance; now = self.old.now; best = best.now } }
+    {
+        self.left_best.copy_from(best);
+        self.stands_on_best = false;
+        self.best_bill = *bill;
+    }
+
+    /// The bill where it stands. Each number is at most 10^11.
+    pub(crate) fn bill(&self) -> &Bill
+        ensures value { result.now ≡ bill_of self.now.instance self.now.now }
+        ensures within { IsWithin (10 ^ 11) result.now }
+    {
+        &self.bill
+    }
+
     /// The ledgers.
     pub(crate) fn ledgers(&self) -> &Ledgers<'a>
         ensures { result.now ≡ record { instance = self.now.instance; plan = self.now.now } }

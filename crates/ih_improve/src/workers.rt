@@ -1,22 +1,22 @@
 //! A worker: attempts of its own, on its own ledgers, with random words of its own.
 
-use crate::accepting::accepts;
+use crate::accepting::most_accepted;
 use crate::comparing::score_of;
 use crate::freezing::any_frozen;
-use crate::heats::heat_at;
+use crate::heats::Pace;
 use crate::legs::Leg;
 use crate::rounds::Walks;
 use crate::walkers::Walker;
 use ih_plan::Plan;
-use ih_proposals::{Attempt, RandomWords, propose};
+use ih_proposals::{Attempt, RandomWords, propose, repair};
 use ih_tables::{Bill, Instance};
 use std::alloc::{AllocError, Global};
 
 // How many attempts are made at one heat.
 const ATTEMPTS_AT_A_HEAT: u64 = 1024;
 
-/// One of the workers of a search. What it goes by in a round is the round's `Leg` and its number: it shares nothing
-/// with the others, and asks no clock.
+/// One of the workers of a search. What it goes by in a round is the round's `Leg`, its number, and where it stands: it
+/// shares nothing with the others, and asks no clock.
 #[derive(Drop)]
 pub(crate) struct ImproveWorker<'a> {
     pub(crate) walker: Walker<'a>,
@@ -28,7 +28,8 @@ impl<'a> ImproveWorker<'a> {
     ghost use Rattle.std.specs.Prelude.{◌≡◌, ◌≤◌, ◌^◌, IfOk};
     ghost use Rattle.ih_plan.specs.Timetable.{IsPlanOf};
     ghost use Rattle.ih_plan.specs.BillOf.{bill_of};
-    ghost use Rattle.ih_improve.specs.WalkerState.{IsUnderway};
+    ghost use Rattle.ih_plan.specs.Series.{AreMoves};
+    ghost use Rattle.ih_improve.specs.{Following.MayStand, WalkerState.IsUnderway};
 
     /// A worker that stands on a timetable with this bill.
     pub(crate) fn new(
@@ -39,7 +40,8 @@ impl<'a> ImproveWorker<'a> {
     ) -> Result<ImproveWorker<'a>, AllocError>
         requires plan { IsPlanOf inst.now.draft plan.now }
         requires bill { bill.now ≡ bill_of inst.now.draft plan.now }
-        ensures { IfOk result (λ w. w.walker.instance ≡ inst.entry.now.draft) }
+        ensures instance { IfOk result (λ w. w.walker.instance ≡ inst.entry.now.draft) }
+        ensures stands { IfOk result (λ w. w.walker.now ≡ plan.now) }
     {
         Ok(ImproveWorker {
             walker: Walker::new(alloc, inst, plan, bill)?,
@@ -48,47 +50,103 @@ impl<'a> ImproveWorker<'a> {
         })
     }
 
-    // One attempt: moves that a proposal makes are priced as one, and made or dropped.
-    fn attempt(&mut self, leg: &Leg<'_>, heat: u64)
+    // Whether the worker leaves its own timetable for the best so far: in the last tenth of all attempts, or where the
+    // best is cheaper by more than the heat for each person.
+    fn takes_over(&self, leg: &Leg<'_>, pace: &Pace, done: u64) -> bool {
+        leg.know_leg();
+        let settings = leg.settings();
+        let inst = leg.instance();
+        let own = score_of(inst, settings.hard, self.walker.bill());
+        let best = score_of(inst, settings.hard, self.walker.best_bill());
+        let far = (pace.cooling.at(done) >> 16) * u64::from(inst.persons());
+        settings.attempts - settings.attempts / 10 <= done || own.saturating_sub(best) > far as i64
+    }
+
+    // Begins a round, where the worker stands or on the best timetable so far.
+    fn begin_round(&mut self, leg: &Leg<'_>, pace: &Pace, done: u64)
+        requires instance { self.old.walker.instance ≡ leg.now.instance }
+        requires stands { MayStand leg.now.instance leg.now.start leg.now.settings.freeze self.old.walker.now }
+        ensures { IsUnderway leg.now self.new.walker }
+    {
+        leg.know_leg();
+        self.walker.begin_with_best(leg.from(), leg.bill());
+        if self.takes_over(leg, pace, done) {
+            self.walker.go_to(leg.from(), leg.bill());
+        }
+    }
+
+    // Makes the moves of the attempt, priced as one, if they change the score by at most `most`. Answers whether they miss
+    // that by little, so that cheaper nurses may mend it.
+    fn make_or_drop(&mut self, leg: &Leg<'_>, pace: &Pace, most: i64) -> bool
+        requires underway { IsUnderway leg.now self.old.walker }
+        requires moves { AreMoves leg.now.instance self.old.moves }
+        ensures underway { IsUnderway leg.now self.new.walker }
+        ensures same { self.new.moves ≡ self.old.moves }
+    {
+        let inst = leg.instance();
+        let settings = leg.settings();
+        leg.know_leg();
+        let moves = self.moves.as_slice();
+        if moves.is_empty() || any_frozen(inst, leg.start(), settings.freeze, moves) {
+            return false;
+        }
+        let price = self.walker.price(moves);
+        let score = score_of(inst, pace.hard, &price);
+        if score <= most {
+            self.walker.make_moves(settings.hard, moves, &price);
+            return false;
+        }
+        score.saturating_sub(most) <= pace.reach
+    }
+
+    // Adds cheaper nurses to the attempt. Answers whether there are any.
+    fn add_nurses(&mut self, leg: &Leg<'_>, pace: &Pace) -> bool
+        requires underway { IsUnderway leg.now self.old.walker }
+        requires moves { AreMoves leg.now.instance self.old.moves }
+        ensures same { self.new.walker ≡ self.old.walker }
+        ensures moves { AreMoves leg.now.instance self.new.moves }
+    {
+        repair(
+            leg.instance(),
+            pace.hard,
+            self.walker.ledgers(),
+            &mut self.words,
+            &mut self.moves,
+        )
+    }
+
+    // One attempt: moves that a proposal makes are made or dropped. If they miss what is accepted by little, the same is
+    // done with cheaper nurses.
+    fn attempt(&mut self, leg: &Leg<'_>, pace: &Pace, heat: u64)
         requires underway { IsUnderway leg.now self.old.walker }
         requires heat { heat ≤ 2 ^ 37 }
         ensures { IsUnderway leg.now self.new.walker }
     {
         let inst = leg.instance();
-        let settings = leg.settings();
-        leg.know_leg();
         propose(
             inst,
-            settings.hard,
+            pace.hard,
             self.walker.ledgers(),
             &mut self.words,
             &mut self.moves,
         );
-        let moves = self.moves.as_slice();
-        if moves.is_empty() || any_frozen(inst, leg.start(), settings.freeze, moves) {
-            return;
-        }
-        let price = self.walker.price(moves);
-        let score = score_of(inst, settings.hard, &price);
-        let word = self.words.next();
-        if accepts(score, heat, word) {
-            self.walker.make_moves(settings.hard, moves, &price);
+        let most = most_accepted(heat, self.words.next());
+        if self.make_or_drop(leg, pace, most) && self.add_nurses(leg, pace) {
+            self.make_or_drop(leg, pace, most);
         }
     }
 
     // The attempts from number `done` on and before `until`. The heat is that of the first, and a new one each 1024th.
-    fn attempt_all(&mut self, leg: &Leg<'_>, done: u64, until: u64)
-        requires underway { IsUnderway leg.now self.old.walker }
-        requires until { until ≤ leg.now.settings.attempts }
+    fn attempt_all(&mut self, leg: &Leg<'_>, pace: &Pace, done: u64, until: u64)
+        requires { IsUnderway leg.now self.old.walker }
         ensures { IsUnderway leg.now self.new.walker }
     {
-        leg.know_leg();
-        let mut heat = heat_at(leg.settings(), done.min(until));
+        let mut heat = pace.cooling.at(done);
         for attempt_no in done..until {
             if attempt_no % ATTEMPTS_AT_A_HEAT == 0 {
-                heat = heat_at(leg.settings(), attempt_no);
+                heat = pace.cooling.at(attempt_no);
             }
-            self.attempt(leg, heat);
+            self.attempt(leg, pace, heat);
         }
     }
 }
@@ -98,16 +156,20 @@ impl<'a> Walks for ImproveWorker<'a> {
 
     ghost instance = { λ w. w.walker.instance };
 
+    ghost stands = { λ w. w.walker.now };
+
     ghost best = { λ w. w.walker.best };
 
     ghost leaves = { Leaves };
 
     fn walk(&mut self, leg: &Leg<'_>, worker_no: usize) {
         leg.know_leg();
-        self.words = RandomWords::new(leg.settings().seed, leg.round(), worker_no as u32);
-        self.walker.go_to(leg.from(), leg.bill());
-        let done = leg.settings().attempts_through(leg.round());
-        let until = leg.settings().attempts_through(leg.round() + 1);
-        self.attempt_all(leg, done, until);
+        let (settings, round) = (leg.settings(), leg.round());
+        let done = settings.attempts_through(round);
+        let until = settings.attempts_through(round + 1);
+        let pace = Pace::of_round(leg, worker_no, done);
+        self.words = RandomWords::new(settings.seed, round, worker_no as u32);
+        self.begin_round(leg, &pace, done);
+        self.attempt_all(leg, &pace, done, until);
     }
 }

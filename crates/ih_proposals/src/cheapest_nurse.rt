@@ -13,8 +13,8 @@ use crate::words::RandomWords;
 use ih_plan::{Move, Write};
 use ih_tables::{NurseNo, RoomNo, Shift};
 
-// What the nurse would add to the score in a shift of a room; the greatest number where the room has the nurse already.
-fn value_of(here: &Situation<'_>, room: RoomNo, shift: Shift, nurse: NurseNo) -> i64
+/// What the nurse would add to the score in a shift of a room; the greatest number where the room has the nurse already.
+pub fn value_of(here: &Situation<'_>, room: RoomNo, shift: Shift, nurse: NurseNo) -> i64
     requires room { room.0 < room_count here.now.inst.now.draft }
     requires shift { shift.0 < shift_count here.now.inst.now.draft }
     requires nurse { nurse.0 < nurse_count here.now.inst.now.draft }

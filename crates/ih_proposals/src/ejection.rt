@@ -34,8 +34,8 @@ fn draw_goal(here: &Situation<'_>, words: &mut RandomWords, patient: PatientNo) 
     Some(Placement { day, room, theatre })
 }
 
-// The patient whom a move withdraws.
-fn withdrawn(inst: &Instance, mv: Move) -> Option<PatientNo>
+/// The patient whom a move withdraws.
+pub fn withdrawn(inst: &Instance, mv: Move) -> Option<PatientNo>
     requires { IsMoveOf inst.now.draft mv }
     ensures { IfSome result (λ p. p.0 < patient_count inst.now.draft) }
 {

@@ -21,19 +21,22 @@ pub enum Kind {
     NurseSwap,
     /// The nurse who is cheapest in a shift.
     CheapestNurse,
+    /// Patients who come to one room in a few days, to other places.
+    Regroup,
 }
 
 /// The kinds, each with its share of 256 words.
-const SHARES: [(Kind, u32); 9] = [
-    (Kind::Blind, 76),
+const SHARES: [(Kind, u32); 10] = [
+    (Kind::Blind, 22),
     (Kind::Place, 60),
-    (Kind::Swap, 36),
-    (Kind::NurseOfStay, 16),
-    (Kind::Ejection, 16),
-    (Kind::Kempe, 12),
-    (Kind::NurseRun, 16),
-    (Kind::NurseSwap, 16),
-    (Kind::CheapestNurse, 8),
+    (Kind::Swap, 46),
+    (Kind::NurseOfStay, 18),
+    (Kind::Ejection, 22),
+    (Kind::Kempe, 26),
+    (Kind::NurseRun, 14),
+    (Kind::NurseSwap, 8),
+    (Kind::CheapestNurse, 20),
+    (Kind::Regroup, 20),
 ];
 
 /// The kind that a word below 256 chooses.

@@ -10,10 +10,33 @@ use crate::stays::{draw_day, draw_patient, first_fit};
 use crate::theatres::cheapest_theatre;
 use crate::words::RandomWords;
 use ih_plan::{Move, Placement};
-use ih_tables::PatientNo;
+use ih_tables::{Day, PatientNo};
 
-/// Another placement of the patient, by random words: the first room that fits from a day on, beside those who are
-/// there once the attempt is made.
+/// A placement of the patient from a day on, by random words: the first room that fits, beside those who are there once
+/// the attempt is made.
+pub fn find_place_on(
+    here: &Situation<'_>,
+    words: &mut RandomWords,
+    patient: PatientNo,
+    day: Day,
+    attempt: &Attempt,
+) -> Option<Placement>
+    requires patient { patient.0 < patient_count here.now.inst.now.draft }
+    requires day { day.0 < here.now.inst.now.draft.days }
+    requires moves { AreMoves here.now.inst.now.draft attempt.now }
+    ensures { IfSome result (IsPlacement here.now.inst.now.draft) }
+{
+    let theatres = here.inst.theatres();
+    if theatres == 0 {
+        return None;
+    }
+    let first = words.below(here.inst.rooms());
+    let room = first_fit(here, patient, day, first, attempt)?;
+    let theatre = cheapest_theatre(here, patient, day, words.below(theatres));
+    Some(Placement { day, room, theatre })
+}
+
+/// Another placement of the patient, by random words: on one of the days of its window.
 pub fn find_place(
     here: &Situation<'_>,
     words: &mut RandomWords,
@@ -24,15 +47,8 @@ pub fn find_place(
     requires moves { AreMoves here.now.inst.now.draft attempt.now }
     ensures { IfSome result (IsPlacement here.now.inst.now.draft) }
 {
-    let theatres = here.inst.theatres();
-    if theatres == 0 {
-        return None;
-    }
     let day = draw_day(here.inst, words, patient)?;
-    let first = words.below(here.inst.rooms());
-    let room = first_fit(here, patient, day, first, attempt)?;
-    let theatre = cheapest_theatre(here, patient, day, words.below(theatres));
-    Some(Placement { day, room, theatre })
+    find_place_on(here, words, patient, day, attempt)
 }
 
 /// A move: a patient, by a random word, to another placement, beside those who are there once the attempt is made.

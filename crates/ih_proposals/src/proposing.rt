@@ -9,9 +9,11 @@ use crate::ejection::ejection;
 use crate::kempe::kempe;
 use crate::mix::{Kind, kind_of};
 use crate::nurse_of_stay::nurse_of_stay;
+use crate::nurse_repair::repair_nurses;
 use crate::nurse_run::nurse_run;
 use crate::nurse_swap::nurse_swap;
 use crate::place::place;
+use crate::regroup::regroup;
 use crate::situation::Situation;
 use crate::swap::swap;
 use crate::words::RandomWords;
@@ -37,6 +39,7 @@ fn propose_kind(here: &Situation<'_>, kind: Kind, words: &mut RandomWords, attem
         Kind::NurseRun => attempt.add_found(inst, nurse_run(here, words)),
         Kind::NurseSwap => nurse_swap(here, words, attempt),
         Kind::CheapestNurse => attempt.add_found(inst, cheapest_nurse(here, words)),
+        Kind::Regroup => regroup(here, words, attempt),
     }
 }
 
@@ -65,4 +68,29 @@ pub fn propose(
     propose_kind(&here, kind, words, attempt);
     // For the proof alone.
     let _few = attempt.len();
+}
+
+/// Adds nurses to an attempt who are cheaper over the new stays of its patients. Answers whether it found any. Which ones
+/// it is, is free. It takes no memory.
+pub fn repair(
+    inst: &Instance,
+    hard: u32,
+    ledgers: &Ledgers<'_>,
+    words: &mut RandomWords,
+    attempt: &mut Attempt,
+) -> bool
+    requires instance { ledgers.now.instance ≡ inst.now.draft }
+    requires hard { hard ≤ 1000000 }
+    requires moves { AreMoves inst.now.draft attempt.old }
+    ensures moves { AreMoves inst.now.draft attempt.new }
+    ensures few { length attempt.new ≤ 8 }
+{
+    let here = Situation {
+        inst,
+        ledgers,
+        hard,
+    };
+    let before = attempt.len();
+    repair_nurses(&here, words, attempt);
+    before < attempt.len()
 }

@@ -9,9 +9,9 @@ use crate::stays::cyclic;
 use ih_plan::Placement;
 use ih_tables::{Day, PatientNo, RoomNo, TheatreNo};
 
-// What the surgery of a placement adds to the score: in the theatre on its day, and for the patient's surgeon there.
+/// What the surgery of a placement adds to the score: in the theatre on its day, and for the patient's surgeon there.
 #[inline(always)]
-fn surgery_score(
+pub fn surgery_score(
     here: &Situation<'_>,
     patient: PatientNo,
     old: Option<Placement>,

@@ -2,7 +2,7 @@ use Rattle.std.proofs.Common.{◌∙◌, ◌∷◌, sym, subst, [], ◌≡◌, L
 use Rattle.std.proofs.lemmas.List.{nil_from_length}
 use Rattle.ih_plan.specs.declared.moves.Move.{Move}
 use Rattle.ih_plan.specs.Series.{AreMoves, after_all}
-use Rattle.ih_journal.specs.Frozen.{KeepsFrozen}
+use Rattle.ih_plan.specs.Frozen.{KeepsFrozen}
 use Rattle.ih_improve.proofs.FrozenMoves.{keeps-more, keeps-no_moves}
 use Rattle.ih_improve.proofs.freezing.+is_any.Goals as goal
 

@@ -1,5 +1,5 @@
 use Rattle.std.proofs.Common.{◌≡◌, vec_capacity, All, length}
-use Rattle.ih_improve.specs.Keeping.{IsOf}
+use Rattle.ih_improve.specs.Keeping.{IsOf, StandsOn}
 use Rattle.ih_improve.proofs.improver.new_workers.Given as goal
 
 abbrev pub invariant-loop : goal.invariant-loop
@@ -7,4 +7,5 @@ invariant-loop l = record {
   len : length l.workers.items ≡ l.counter;
   room : vec_capacity l.workers ≡ l.count;
   instance : All (IsOf l.inst.draft) l.workers.items;
+  stands : All (StandsOn l.plan) l.workers.items;
 }

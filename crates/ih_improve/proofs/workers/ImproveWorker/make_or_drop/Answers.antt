@@ -1,18 +1,16 @@
 use Rattle.std.proofs.Common.{sym, subst}
-use Rattle.ih_tables.specs.declared.drafts.Draft.{Draft}
 use Rattle.ih_plan.specs.Series.{AreMoves, after_all}
-use Rattle.ih_journal.specs.Frozen.{KeepsFrozen}
+use Rattle.ih_plan.specs.Frozen.{KeepsFrozen}
 use Rattle.ih_improve.proofs.Underway.{underway-more}
-use Rattle.ih_improve.proofs.workers.ImproveWorker.attempt.Goals as goal
+use Rattle.ih_improve.proofs.workers.ImproveWorker.make_or_drop.Goals as goal
 
-pub returns-then-accepts : goal.returns-then-accepts
-returns-then-accepts c =
+pub returns-then-score-most-clause-underway : goal.returns-then-score-most-clause-underway
+returns-then-score-most-clause-underway c =
     let s = c.args.leg.now in
     let v = c.args.self.now.walker in
     let ms = c.as_slice-moves.result.now in
     let on = c.requires.underway in
-    let inside : AreMoves s.instance ms =
-    subst (λ (I : Draft). AreMoves I ms) c.instance-inst.ensures (subst (AreMoves c.instance-inst.result.now.draft) (sym c.as_slice-moves.ensures.moves) c.propose.ensures.moves) in
+    let inside : AreMoves s.instance ms = subst (AreMoves s.instance) (sym c.as_slice-moves.ensures.moves) c.requires.moves in
     let keeps = rw (c.instance-inst.ensures, c.start.ensures, c.settings-settings.ensures) at c.any_frozen.ensures in
     let frozen : KeepsFrozen s.instance s.start s.settings.freeze (after_all s.instance v.now ms) = keeps v.now c.if-any_frozen.false on.now on.frozen in
     let same = c.price-price.ensures.same in
