@@ -1,7 +1,6 @@
 //! The tests, by what they are of.
 
 mod examples;
-mod generated;
 mod instance;
 mod journal;
 mod limits;
@@ -11,4 +10,3 @@ mod shelf;
 mod solution;
 mod tables;
 mod validate;
-mod words;

@@ -1,6 +1,7 @@
 //! Calls by the words of a line. Where memory runs out, what is asked for is not so.
 
 use crate::gates::TestGate;
+use crate::texts::are_lines;
 use ih_answers::Status;
 use ih_shelf::{MemShelf, MemSink};
 use std::alloc::{AllocError, Global};
@@ -14,7 +15,7 @@ pub fn words_of(alloc: Global, line: &str) -> Result<Vec<String>, AllocError> {
     Ok(words)
 }
 
-/// Whether a call by the words of a line ends with this status, past this gate.
+/// Whether a call by the words of a line ends with the status of this code, past this gate.
 pub(crate) fn exits_past<F: Fn(&[String], &mut MemShelf, &mut MemSink, &TestGate) -> Status>(
     alloc: Global,
     call: &F,
@@ -22,12 +23,12 @@ pub(crate) fn exits_past<F: Fn(&[String], &mut MemShelf, &mut MemSink, &TestGate
     shelf: &mut MemShelf,
     out: &mut MemSink,
     gate: &TestGate,
-    status: Status,
+    code: u64,
 ) -> bool
     requires { F.IsAlwaysCallable call.now }
 {
     match words_of(alloc, line) {
-        Ok(words) => call(words.as_slice(), shelf, out, gate) == status,
+        Ok(words) => u64::from(call(words.as_slice(), shelf, out, gate).code()) == code,
         Err(_) => false,
     }
 }
@@ -39,93 +40,59 @@ pub(crate) fn exits<F: Fn(&[String], &mut MemShelf, &mut MemSink, &TestGate) -> 
     line: &str,
     shelf: &mut MemShelf,
     out: &mut MemSink,
-    status: Status,
+    code: u64,
 ) -> bool
     requires { F.IsAlwaysCallable call.now }
 {
-    exits_past(alloc, call, line, shelf, out, &TestGate::Open, status)
+    exits_past(alloc, call, line, shelf, out, &TestGate::Open, code)
 }
 
-/// Whether a call ends with this status and says these bytes. A second put is to fail, so they come in one.
-pub(crate) fn ends_saying<F: Fn(&[String], &mut MemShelf, &mut MemSink, &TestGate) -> Status>(
-    alloc: Global,
-    call: &F,
-    line: &str,
-    shelf: &mut MemShelf,
-    status: Status,
-    bytes: &[u8],
-) -> bool
-    requires { F.IsAlwaysCallable call.now }
-{
-    let mut out = MemSink::new(alloc);
-    out.fail_put(2).is_ok()
-        && exits(alloc, call, line, shelf, &mut out, status)
-        && out.bytes() == bytes
-}
-
-/// Whether a call ends with this status and says this text, in one put.
-pub(crate) fn ends<F: Fn(&[String], &mut MemShelf, &mut MemSink, &TestGate) -> Status>(
-    alloc: Global,
-    call: &F,
-    line: &str,
-    shelf: &mut MemShelf,
-    status: Status,
-    text: &str,
-) -> bool
-    requires { F.IsAlwaysCallable call.now }
-{
-    ends_saying(alloc, call, line, shelf, status, text.as_bytes())
-}
-
-/// The same in any number of puts.
+/// Whether a call ends with the status of this code and says these lines, in any number of puts.
 pub(crate) fn says<F: Fn(&[String], &mut MemShelf, &mut MemSink, &TestGate) -> Status>(
     alloc: Global,
     call: &F,
     line: &str,
     shelf: &mut MemShelf,
-    status: Status,
-    bytes: &[u8],
+    code: u64,
+    text: &str,
 ) -> bool
     requires { F.IsAlwaysCallable call.now }
 {
     let mut out = MemSink::new(alloc);
-    exits(alloc, call, line, shelf, &mut out, status) && out.bytes() == bytes
+    exits(alloc, call, line, shelf, &mut out, code) && are_lines(out.bytes(), text)
 }
 
-/// Whether a call ends with this status and says a text that begins and ends so, in any number of puts.
-pub(crate) fn ends_like<F: Fn(&[String], &mut MemShelf, &mut MemSink, &TestGate) -> Status>(
-    alloc: Global,
-    call: &F,
-    line: &str,
-    shelf: &mut MemShelf,
-    status: Status,
-    ends: (&str, &str),
-) -> bool
-    requires { F.IsAlwaysCallable call.now }
-{
-    let mut out = MemSink::new(alloc);
-    exits(alloc, call, line, shelf, &mut out, status) && reads(&out, ends.0, ends.1)
-}
-
-/// Whether a call ends with this status where the put of this number fails, and has then said this text.
+/// The same where the put of this number fails.
 pub(crate) fn is_cut_off<F: Fn(&[String], &mut MemShelf, &mut MemSink, &TestGate) -> Status>(
     alloc: Global,
     call: &F,
     line: &str,
     shelf: &mut MemShelf,
     put: u64,
-    status: Status,
+    code: u64,
     text: &str,
 ) -> bool
     requires { F.IsAlwaysCallable call.now }
 {
     let mut out = MemSink::new(alloc);
     out.fail_put(put).is_ok()
-        && exits(alloc, call, line, shelf, &mut out, status)
-        && out.bytes() == text.as_bytes()
+        && exits(alloc, call, line, shelf, &mut out, code)
+        && are_lines(out.bytes(), text)
 }
 
-/// Whether the text begins and ends so.
-pub(crate) fn reads(out: &MemSink, start: &str, end: &str) -> bool {
-    out.bytes().starts_with(start.as_bytes()) && out.bytes().ends_with(end.as_bytes())
+/// Whether two calls are done and say the same.
+pub(crate) fn are_alike<F: Fn(&[String], &mut MemShelf, &mut MemSink, &TestGate) -> Status>(
+    alloc: Global,
+    call: &F,
+    shelf: &mut MemShelf,
+    first: &str,
+    second: &str,
+) -> bool
+    requires { F.IsAlwaysCallable call.now }
+{
+    let mut out = MemSink::new(alloc);
+    let mut other = MemSink::new(alloc);
+    exits(alloc, call, first, shelf, &mut out, 0)
+        && exits(alloc, call, second, shelf, &mut other, 0)
+        && out.bytes() == other.bytes()
 }

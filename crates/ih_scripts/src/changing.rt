@@ -1,5 +1,6 @@
 //! Files that are laid out before a call.
 
+use crate::examples::given;
 use ih_shelf::MemShelf;
 use std::alloc::{AllocError, Global};
 
@@ -29,10 +30,22 @@ pub(crate) fn store_changed(
     shelf.store(name, made.as_bytes())
 }
 
-/// Stores an instance under `i` and a solution under `s`.
-pub fn lay(shelf: &mut MemShelf, instance: &str, solution: &str) -> Result<(), AllocError> {
-    shelf.store("i", instance.as_bytes())?;
-    shelf.store("s", solution.as_bytes())
+/// Stores the text under the name, with a line feed at its end.
+pub(crate) fn store_lines(
+    alloc: Global,
+    shelf: &mut MemShelf,
+    name: &str,
+    text: &str,
+) -> Result<(), AllocError> {
+    let mut made = String::from_str(alloc, text)?;
+    made.push_str("\n")?;
+    shelf.store(name, made.as_bytes())
+}
+
+/// Stores the instance of a name under `i` and the solution of a name under `s`.
+pub(crate) fn lay(shelf: &mut MemShelf, instance: &str, solution: &str) -> Result<(), AllocError> {
+    shelf.store("i", given(instance).as_bytes())?;
+    shelf.store("s", given(solution).as_bytes())
 }
 
 /// Stores so many spaces under the name.
@@ -40,8 +53,8 @@ pub(crate) fn store_spaces(
     alloc: Global,
     shelf: &mut MemShelf,
     name: &str,
-    count: usize,
+    count: u64,
 ) -> Result<(), AllocError> {
-    let spaces = vec![in alloc; b' '; count]?;
+    let spaces = vec![in alloc; b' '; count as usize]?;
     shelf.store(name, spaces.as_slice())
 }

@@ -1,24 +1,28 @@
 //! The gates past which calls are made.
 
+use crate::counting::CountingGate;
 use crate::meeting::MeetingGate;
 use ih_shelf::{Gate, HoldGate};
 use std::sync::Wait;
 
-/// A gate that does nothing, one that holds worker 0, or one at which all workers meet.
+/// A gate that does nothing, one that holds worker 0, one at which all workers meet, or one that counts how often each
+/// of two workers passes, which is to be this number.
 #[derive(Drop)]
 pub enum TestGate {
     Open,
     Hold(HoldGate),
     Meeting(MeetingGate),
+    Counting(CountingGate, u64),
 }
 
 impl TestGate {
-    /// Whether a wait at it has ended in vain.
-    pub(crate) fn ran_out(&self) -> bool {
+    /// Whether no wait at it has ended in vain, and each worker passed as often as it was to, in turn.
+    pub(crate) fn is_well(&self) -> bool {
         match self {
-            TestGate::Open => false,
-            TestGate::Hold(gate) => gate.ran_out(),
-            TestGate::Meeting(gate) => gate.ran_out(),
+            TestGate::Open => true,
+            TestGate::Hold(gate) => !gate.ran_out(),
+            TestGate::Meeting(gate) => !gate.ran_out(),
+            TestGate::Counting(gate, passes) => gate.counted(*passes, *passes),
         }
     }
 }
@@ -29,6 +33,7 @@ impl Gate for TestGate {
             TestGate::Open => (),
             TestGate::Hold(gate) => gate.before(rt, worker, number),
             TestGate::Meeting(gate) => gate.before(rt, worker, number),
+            TestGate::Counting(gate, _) => gate.before(rt, worker, number),
         }
     }
 
@@ -37,6 +42,7 @@ impl Gate for TestGate {
             TestGate::Open => (),
             TestGate::Hold(gate) => gate.after(rt, worker, number),
             TestGate::Meeting(gate) => gate.after(rt, worker, number),
+            TestGate::Counting(gate, _) => gate.after(rt, worker, number),
         }
     }
 }

@@ -1,20 +1,20 @@
 //! What names hold.
 
+use crate::texts::{are_lines, are_text};
 use ih_shelf::MemShelf;
 
-/// Whether the name has just this text, or isn't there where none is given.
-pub(crate) fn holds(shelf: &MemShelf, name: &str, text: Option<&str>) -> bool {
-    match (shelf.get(name), text) {
-        (None, None) => true,
-        (Some(bytes), Some(text)) => bytes == text.as_bytes(),
-        _ => false,
+/// Whether the name has such a text, without a line feed at its end.
+pub(crate) fn holds(shelf: &MemShelf, name: &str, text: &str) -> bool {
+    match shelf.get(name) {
+        Some(bytes) => are_text(bytes, text),
+        None => false,
     }
 }
 
-/// Whether the name has a text that begins and ends so.
-pub(crate) fn holds_like(shelf: &MemShelf, name: &str, start: &str, end: &str) -> bool {
+/// Whether the name has such lines, each with its line feed.
+pub(crate) fn holds_lines(shelf: &MemShelf, name: &str, text: &str) -> bool {
     match shelf.get(name) {
-        Some(bytes) => bytes.starts_with(start.as_bytes()) && bytes.ends_with(end.as_bytes()),
+        Some(bytes) => are_lines(bytes, text),
         None => false,
     }
 }
@@ -55,8 +55,8 @@ pub(crate) fn lines_behind<'a>(shelf: &'a MemShelf, name: &str) -> Option<&'a st
 }
 
 // How many line feeds there are.
-fn line_feeds(bytes: &[u8]) -> u32 {
-    let mut lines: u32 = 0;
+fn line_feeds(bytes: &[u8]) -> u64 {
+    let mut lines: u64 = 0;
     for byte in bytes {
         if *byte == b'\n' {
             lines = lines.saturating_add(1);
@@ -66,21 +66,43 @@ fn line_feeds(bytes: &[u8]) -> u32 {
 }
 
 /// Whether the name has a text of so many lines.
-pub(crate) fn has_lines(shelf: &MemShelf, name: &str, count: u32) -> bool {
+pub(crate) fn has_count(shelf: &MemShelf, name: &str, count: u64) -> bool {
     match shelf.get(name) {
         Some(bytes) => line_feeds(bytes) == count,
         None => false,
     }
 }
 
-fn is_there(page: &[u8], text: &str) -> bool {
-    (0..page.len()).any(|i| page[i..].starts_with(text.as_bytes()))
+fn is_there(page: &[u8], text: &[u8]) -> bool {
+    for i in 0..page.len() {
+        if page[i..].starts_with(text) {
+            return true;
+        }
+    }
+    false
 }
 
-/// Whether the name has a text in which each of these stands.
-pub(crate) fn shows(shelf: &MemShelf, name: &str, texts: &[&str]) -> bool {
+/// Whether the name has a text in which this one stands.
+pub(crate) fn shows(shelf: &MemShelf, name: &str, text: &str) -> bool {
     match shelf.get(name) {
-        Some(page) => texts.iter().all(|text| is_there(page, *text)),
+        Some(page) => is_there(page, text.as_bytes()),
+        None => false,
+    }
+}
+
+// The checksum of a text by FNV-1a with 64 bits.
+fn checksum(text: &[u8]) -> u64 {
+    let mut sum: u64 = 0xcbf2_9ce4_8422_2325;
+    for byte in text {
+        sum = (sum ^ u64::from(*byte)).wrapping_mul(0x0000_0100_0000_01b3);
+    }
+    sum
+}
+
+/// Whether the name has a text of this checksum.
+pub(crate) fn has_sum(shelf: &MemShelf, name: &str, sum: u64) -> bool {
+    match shelf.get(name) {
+        Some(text) => checksum(text) == sum,
         None => false,
     }
 }

@@ -1,14 +1,7 @@
 //! A search whose workers are all at work at once: a gate holds each until every one has priced its first move.
 
-use crate::calls::{ends_saying, exits_past};
-use crate::changing::lay;
-use crate::examples::ONE_ADMITTED;
-use crate::gates::TestGate;
 use crate::held::lines_behind;
-use ih_answers::Status;
-use ih_fixtures::TWO_PATIENTS;
-use ih_shelf::{Gate, MemShelf, MemSink};
-use std::alloc::Global;
+use ih_shelf::{Gate, MemShelf};
 use std::sync::Wait;
 use std::sync::atomic::{AtomicBool, AtomicU64, Ordering};
 use std::thread::yield_now;
@@ -79,45 +72,10 @@ fn priced_on_the_start(lines: &str) -> u64 {
     firsts
 }
 
-// Whether so many first moves of the journal were.
-fn began_together(shelf: &MemShelf, workers: u64) -> bool {
+/// Whether so many first moves of the journal `j` were priced on the start.
+pub(crate) fn began_together(shelf: &MemShelf, workers: u64) -> bool {
     match lines_behind(shelf, "j") {
         Some(lines) => priced_on_the_start(lines) == workers,
         None => false,
     }
-}
-
-// Whether the workers of a search meet at this gate, and the replay of their journal says what the search said.
-fn meet_at<F: Fn(&[String], &mut MemShelf, &mut MemSink, &TestGate) -> Status>(
-    alloc: Global,
-    call: &F,
-    shelf: &mut MemShelf,
-    search: &str,
-    workers: u64,
-    gate: &TestGate,
-) -> bool
-    requires { F.IsAlwaysCallable call.now }
-{
-    let mut out = MemSink::new(alloc);
-    let replay = "replay i j p --start s";
-    exits_past(alloc, call, search, shelf, &mut out, gate, Status::Done)
-        && began_together(shelf, workers)
-        && ends_saying(alloc, call, replay, shelf, Status::Done, out.bytes())
-}
-
-/// Whether so many workers of a search of the two patients meet at a gate, and the replay of their journal says what
-/// the search said.
-pub(crate) fn meet<F: Fn(&[String], &mut MemShelf, &mut MemSink, &TestGate) -> Status>(
-    alloc: Global,
-    call: &F,
-    shelf: &mut MemShelf,
-    search: &str,
-    workers: u64,
-) -> bool
-    requires { F.IsAlwaysCallable call.now }
-{
-    let gate = TestGate::Meeting(MeetingGate::new(workers));
-    lay(shelf, TWO_PATIENTS, ONE_ADMITTED).is_ok()
-        && meet_at(alloc, call, shelf, search, workers, &gate)
-        && !gate.ran_out()
 }

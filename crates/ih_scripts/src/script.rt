@@ -1,177 +1,94 @@
-//! Whole calls in a row over files in memory, and what each leaves, as the rows of a table.
+//! The events of a script, and whether each comes out so.
 
-use crate::calls::{ends, ends_like, exits, exits_past, is_cut_off, reads, says};
-use crate::changing::{lay, store_changed, store_spaces};
-use crate::examples::ONE_ADMITTED;
+use crate::calls::{are_alike, is_cut_off, says};
+use crate::changing::{lay, store_changed, store_lines, store_spaces};
+use crate::counting::CountingGate;
+use crate::examples::given;
 use crate::gates::TestGate;
-use crate::held::{are_same, has_lines, have_same_lines, holds, holds_like, shows};
-use crate::meeting::meet;
+use crate::held::{are_same, has_count, has_sum, have_same_lines, holds, holds_lines, shows};
+use crate::meeting::{MeetingGate, began_together};
 use crate::pairs::has_pairs;
+use crate::past_gates::is_done_past;
+use crate::texts::{cut, meant, number};
 use ih_answers::Status;
-use ih_fixtures::TWO_PATIENTS;
 use ih_shelf::{HoldGate, MemShelf, MemSink};
 use std::alloc::Global;
-
-/// An event: what is done, or what is then so.
-#[derive(Clone, Copy)]
-pub enum Event<'a> {
-    /// A text is stored under a name.
-    Store(&'a str, &'a str),
-    /// So many spaces are stored under a name.
-    Spaces(&'a str, usize),
-    /// An instance is stored under `i`, and a solution under `s`.
-    Lay(&'a str, &'a str),
-    /// A name gets a text in which the last stands in place of the one before.
-    Change(&'a str, &'a str, &'a str, &'a str),
-    /// The read of this number is to fail.
-    FailRead(u64),
-    /// The write of this number is to fail, and to leave so many bytes.
-    FailWrite(u64, u64),
-    /// The call by the words of a line ends with this status and says this text, in one put.
-    Ends(&'a str, Status, &'a str),
-    /// The same in any number of puts.
-    Says(&'a str, Status, &'a str),
-    /// The call ends with this status and says a text that begins and ends so.
-    EndsLike(&'a str, Status, &'a str, &'a str),
-    /// The call is done, whatever it says.
-    Exits(&'a str),
-    /// The call ends with this status where the put of this number fails, and has then said this text.
-    CutOff(&'a str, u64, Status, &'a str),
-    /// Two calls are done and say the same text.
-    Alike(&'a str, &'a str),
-    /// Each of these searches and this replay of its journal are done, say the same text and leave the same solution.
-    Replays(&'a [&'a str], &'a str),
-    /// A search of the two patients is done past a gate that holds worker 0's attempts of the numbers below this one.
-    /// Its text begins and ends so, and the other call, if there is one, then says the same.
-    Held(&'a str, u32, &'a str, &'a str, Option<&'a str>),
-    /// A search of the two patients is done past a gate at which so many workers meet, and its replay says the same.
-    Meets(&'a str, u64),
-    /// A name has a text in which each of these stands.
-    Shows(&'a str, &'a [&'a str]),
-    /// A name has just this text, or isn't there.
-    Holds(&'a str, Option<&'a str>),
-    /// A name has a text that begins and ends so.
-    HoldsLike(&'a str, &'a str, &'a str),
-    /// Two names have the same bytes.
-    Same(&'a str, &'a str),
-    /// Two names have the same lines behind their first ones.
-    SameLines(&'a str, &'a str),
-    /// A name has a text of so many lines.
-    Lines(&'a str, u32),
-    /// A name has a journal in which a hundred attempts of worker 0 stand right behind those of worker 1.
-    Pairs(&'a str),
-}
-
-use Event::{
-    Alike, Change, CutOff, Ends, EndsLike, Exits, FailRead, FailWrite, Held, Holds, HoldsLike, Lay,
-    Lines, Meets, Pairs, Replays, Same, SameLines, Says, Shows, Spaces, Store,
-};
-
-fn is_done<F: Fn(&[String], &mut MemShelf, &mut MemSink, &TestGate) -> Status>(
-    alloc: Global,
-    call: &F,
-    shelf: &mut MemShelf,
-    line: &str,
-) -> bool
-    requires { F.IsAlwaysCallable call.now }
-{
-    let mut out = MemSink::new(alloc);
-    exits(alloc, call, line, shelf, &mut out, Status::Done)
-}
-
-// Whether a call, if there is one, is done and says what the sink has.
-fn says_again<F: Fn(&[String], &mut MemShelf, &mut MemSink, &TestGate) -> Status>(
-    alloc: Global,
-    call: &F,
-    shelf: &mut MemShelf,
-    line: Option<&str>,
-    out: &MemSink,
-) -> bool
-    requires { F.IsAlwaysCallable call.now }
-{
-    match line {
-        Some(line) => says(alloc, call, line, shelf, Status::Done, out.bytes()),
-        None => true,
-    }
-}
-
-fn are_alike<F: Fn(&[String], &mut MemShelf, &mut MemSink, &TestGate) -> Status>(
-    alloc: Global,
-    call: &F,
-    shelf: &mut MemShelf,
-    first: &str,
-    second: &str,
-) -> bool
-    requires { F.IsAlwaysCallable call.now }
-{
-    let mut out = MemSink::new(alloc);
-    exits(alloc, call, first, shelf, &mut out, Status::Done)
-        && says_again(alloc, call, shelf, Some(second), &out)
-}
 
 // The most turns for which a gate holds a worker.
 const TURNS: u64 = 100_000_000;
 
-// Whether a search of the two patients is done past a gate that holds worker 0's attempts of the numbers below this
-// one, and no wait there ended in vain.
-fn is_held<F: Fn(&[String], &mut MemShelf, &mut MemSink, &TestGate) -> Status>(
-    alloc: Global,
-    call: &F,
-    shelf: &mut MemShelf,
-    line: &str,
-    numbers: u32,
-    out: &mut MemSink,
-) -> bool
-    requires { F.IsAlwaysCallable call.now }
-{
-    let gate = TestGate::Hold(HoldGate::new(TURNS, numbers));
-    lay(shelf, TWO_PATIENTS, ONE_ADMITTED).is_ok()
-        && exits_past(alloc, call, line, shelf, out, &gate, Status::Done)
-        && !gate.ran_out()
-}
-
-fn is_held_saying<F: Fn(&[String], &mut MemShelf, &mut MemSink, &TestGate) -> Status>(
-    alloc: Global,
-    call: &F,
-    shelf: &mut MemShelf,
-    line: &str,
-    numbers: u32,
-    ends: (&str, &str),
-    again: Option<&str>,
-) -> bool
-    requires { F.IsAlwaysCallable call.now }
-{
-    let mut out = MemSink::new(alloc);
-    is_held(alloc, call, shelf, line, numbers, &mut out)
-        && reads(&out, ends.0, ends.1)
-        && says_again(alloc, call, shelf, again, &out)
-}
-
-// Whether the shelf is so.
-fn is_so(shelf: &MemShelf, event: &Event<'_>) -> bool {
-    match *event {
-        Holds(name, text) => holds(shelf, name, text),
-        HoldsLike(name, start, end) => holds_like(shelf, name, start, end),
-        Same(name, other) => are_same(shelf, name, other),
-        SameLines(name, other) => have_same_lines(shelf, name, other),
-        Lines(name, count) => has_lines(shelf, name, count),
-        Pairs(name) => has_pairs(shelf, name),
-        Shows(name, texts) => shows(shelf, name, texts),
+// What is so of a name, where a number is said.
+fn counts(shelf: &MemShelf, verb: &str, name: &str, count: u64) -> bool {
+    match verb {
+        "lines" => has_count(shelf, name, count),
+        "sum" => has_sum(shelf, name, count),
         _ => false,
     }
 }
 
-// Whether the files are laid out.
-fn is_laid(alloc: Global, shelf: &mut MemShelf, event: &Event<'_>) -> bool {
-    match *event {
-        Store(name, text) => shelf.store(name, text.as_bytes()).is_ok(),
-        Spaces(name, count) => store_spaces(alloc, shelf, name, count).is_ok(),
-        Lay(instance, solution) => lay(shelf, instance, solution).is_ok(),
-        Change(name, text, from, to) => store_changed(alloc, shelf, name, text, from, to).is_ok(),
-        FailRead(number) => shelf.fail_read(number).is_ok(),
-        FailWrite(number, kept) => shelf.fail_write(number, kept).is_ok(),
-        _ => is_so(shelf, event),
+// Whether the shelf is so.
+fn is_so(shelf: &MemShelf, verb: &str, name: &str, other: &str, text: &str) -> bool {
+    match verb {
+        "is" => holds(shelf, name, text),
+        "has" => holds_lines(shelf, name, text),
+        "shows" => shows(shelf, name, text),
+        "no" => shelf.get(name).is_none(),
+        "same" => are_same(shelf, name, other),
+        "same-lines" => have_same_lines(shelf, name, other),
+        "pairs" => has_pairs(shelf, name),
+        "together" => began_together(shelf, number(name).unwrap_or(0)),
+        "#" => true,
+        _ => match number(other) {
+            Some(count) => counts(shelf, verb, name, count),
+            None => false,
+        },
     }
+}
+
+// Whether the files are laid out.
+fn is_laid(
+    alloc: Global,
+    shelf: &mut MemShelf,
+    verb: &str,
+    name: &str,
+    other: &str,
+    text: &str,
+) -> bool {
+    match verb {
+        "store" => shelf.store(name, meant(text).as_bytes()).is_ok(),
+        "write" => store_lines(alloc, shelf, name, text).is_ok(),
+        "lay" => lay(shelf, name, other).is_ok(),
+        "change" => {
+            let (from, to) = cut(text, "\n");
+            store_changed(alloc, shelf, name, given(other), from, to).is_ok()
+        }
+        "spaces" => store_spaces(alloc, shelf, name, number(other).unwrap_or(0)).is_ok(),
+        "fail-read" => shelf.fail_read(number(name).unwrap_or(0)).is_ok(),
+        "fail-write" => {
+            let (nth, kept) = (number(name).unwrap_or(0), number(other).unwrap_or(0));
+            shelf.fail_write(nth, kept).is_ok()
+        }
+        _ => is_so(shelf, verb, name, other, text),
+    }
+}
+
+// Whether each of these calls ends with this status and says so.
+fn each_ends<F: Fn(&[String], &mut MemShelf, &mut MemSink, &TestGate) -> Status>(
+    alloc: Global,
+    call: &F,
+    shelf: &mut MemShelf,
+    lines: &str,
+    code: u64,
+    text: &str,
+) -> bool
+    requires { F.IsAlwaysCallable call.now }
+{
+    for line in lines.split('\n') {
+        if !says(alloc, call, line, shelf, code, text) {
+            return false;
+        }
+    }
+    true
 }
 
 // Whether each search and this replay of its journal say the same text and leave the same solution.
@@ -179,12 +96,12 @@ fn are_replayed<F: Fn(&[String], &mut MemShelf, &mut MemSink, &TestGate) -> Stat
     alloc: Global,
     call: &F,
     shelf: &mut MemShelf,
-    searches: &[&str],
+    searches: &str,
     replay: &str,
 ) -> bool
     requires { F.IsAlwaysCallable call.now }
 {
-    for search in searches {
+    for search in searches.split('\n') {
         if !are_alike(alloc, call, shelf, search, replay) || !are_same(shelf, "p", "o") {
             return false;
         }
@@ -192,23 +109,75 @@ fn are_replayed<F: Fn(&[String], &mut MemShelf, &mut MemSink, &TestGate) -> Stat
     true
 }
 
-// Whether several calls, or one past a gate, come out so.
-fn come_out<F: Fn(&[String], &mut MemShelf, &mut MemSink, &TestGate) -> Status>(
+// Whether a call with a number before it comes out so.
+fn is_counted<F: Fn(&[String], &mut MemShelf, &mut MemSink, &TestGate) -> Status>(
     alloc: Global,
     call: &F,
     shelf: &mut MemShelf,
-    event: &Event<'_>,
+    verb: &str,
+    count: u64,
+    line: &str,
+    text: &str,
 ) -> bool
     requires { F.IsAlwaysCallable call.now }
 {
-    match *event {
-        Alike(first, second) => are_alike(alloc, call, shelf, first, second),
-        Replays(searches, replay) => are_replayed(alloc, call, shelf, searches, replay),
-        Held(line, numbers, start, end, again) => {
-            is_held_saying(alloc, call, shelf, line, numbers, (start, end), again)
+    if count > 1_000_000 {
+        return false;
+    }
+    match verb {
+        "says" => says(alloc, call, line, shelf, count, text),
+        "each" => each_ends(alloc, call, shelf, text, count, line),
+        "cut" => {
+            let (code, line) = cut(line, " ");
+            is_cut_off(
+                alloc,
+                call,
+                line,
+                shelf,
+                count,
+                number(code).unwrap_or(99),
+                text,
+            )
         }
-        Meets(line, workers) => meet(alloc, call, shelf, line, workers),
-        _ => is_laid(alloc, shelf, event),
+        "hold" => {
+            let gate = TestGate::Hold(HoldGate::new(TURNS, count as u32));
+            is_done_past(alloc, call, shelf, line, &gate, text)
+        }
+        "meet" => {
+            let gate = TestGate::Meeting(MeetingGate::new(count));
+            is_done_past(alloc, call, shelf, line, &gate, text)
+        }
+        "pass" => {
+            let gate = TestGate::Counting(CountingGate::new(), count);
+            is_done_past(alloc, call, shelf, line, &gate, text)
+        }
+        _ => false,
+    }
+}
+
+// Whether calls, or what is done without one, come out so.
+fn comes_out<F: Fn(&[String], &mut MemShelf, &mut MemSink, &TestGate) -> Status>(
+    alloc: Global,
+    call: &F,
+    shelf: &mut MemShelf,
+    verb: &str,
+    rest: &str,
+    text: &str,
+) -> bool
+    requires { F.IsAlwaysCallable call.now }
+{
+    let (first, others) = cut(rest, " ");
+    match verb {
+        "alike" => {
+            let (one, two) = cut(text, "\n");
+            are_alike(alloc, call, shelf, one, two)
+        }
+        "replays" => are_replayed(alloc, call, shelf, text, rest),
+        "says" | "each" | "cut" | "hold" | "meet" | "pass" => match number(first) {
+            Some(count) => is_counted(alloc, call, shelf, verb, count, others, text),
+            None => false,
+        },
+        _ => is_laid(alloc, shelf, verb, first, others, text),
     }
 }
 
@@ -217,49 +186,31 @@ fn takes<F: Fn(&[String], &mut MemShelf, &mut MemSink, &TestGate) -> Status>(
     alloc: Global,
     call: &F,
     shelf: &mut MemShelf,
-    event: &Event<'_>,
+    event: &str,
 ) -> bool
     requires { F.IsAlwaysCallable call.now }
 {
-    match *event {
-        Ends(line, status, text) => ends(alloc, call, line, shelf, status, text),
-        Says(line, status, text) => { says(alloc, call, line, shelf, status, text.as_bytes()) }
-        EndsLike(line, status, start, end) => {
-            ends_like(alloc, call, line, shelf, status, (start, end))
-        }
-        Exits(line) => is_done(alloc, call, shelf, line),
-        CutOff(line, put, status, text) => {
-            is_cut_off(alloc, call, line, shelf, put, status, text)
-        }
-        _ => come_out(alloc, call, shelf, event),
+    let (head, text) = cut(event, "\n");
+    let (verb, rest) = cut(head, " ");
+    match number(verb) {
+        Some(code) => is_cut_off(alloc, call, rest, shelf, 2, code, text),
+        None => comes_out(alloc, call, shelf, verb, rest, text),
     }
 }
 
-// Whether each event comes out so, from these files on.
-fn goes_on<F: Fn(&[String], &mut MemShelf, &mut MemSink, &TestGate) -> Status>(
+/// The first event that doesn't come out so, from no files on, or nothing.
+pub fn first_wrong<'s, F: Fn(&[String], &mut MemShelf, &mut MemSink, &TestGate) -> Status>(
     alloc: Global,
     call: &F,
-    shelf: &mut MemShelf,
-    events: &[Event<'_>],
-) -> bool
-    requires { F.IsAlwaysCallable call.now }
-{
-    for event in events {
-        if !takes(alloc, call, shelf, event) {
-            return false;
-        }
-    }
-    true
-}
-
-/// Whether each event comes out so, from no files on.
-pub fn goes<F: Fn(&[String], &mut MemShelf, &mut MemSink, &TestGate) -> Status>(
-    alloc: Global,
-    call: &F,
-    events: &[Event<'_>],
-) -> bool
+    script: &'s str,
+) -> &'s str
     requires { F.IsAlwaysCallable call.now }
 {
     let mut shelf = MemShelf::new(alloc);
-    goes_on(alloc, call, &mut shelf, events)
+    for event in script.trim_end().split("\n> ") {
+        if !event.is_empty() && !takes(alloc, call, &mut shelf, event) {
+            return event;
+        }
+    }
+    ""
 }

@@ -1,11 +1,9 @@
 //! What is answered for the files of two small instances after one change.
 
-use crate::tests::rows::each_row;
+use crate::tests::rows::{cut, none_is_wrong};
 use ih_fixtures::{TWO_PATIENTS, WARD};
 use ih_instance::{InstanceError, read_instance};
-use ih_tables::{Fault, Instance, Place, Refusal};
 use std::alloc::{AllocError, Global};
-use std::process::Abort;
 
 // Whether that is said of a file.
 fn says(alloc: Global, error: &InstanceError, wanted: &str) -> bool {
@@ -39,33 +37,22 @@ pub(crate) fn is_answered(alloc: Global, text: &str, old: &str, new: &str, wante
     }
 }
 
-// Whether a row tells what is answered: what stands in a text, what is put in its place, and the answer.
-fn is_change_answered(alloc: Global, text: &str, row: &str) -> bool {
-    let mut fields = row.split(" | ");
-    match (fields.next(), fields.next(), fields.next()) {
-        (Some(old), Some(new), Some(wanted)) => is_answered(alloc, text, old, new, wanted),
-        _ => false,
+// The first row that isn't so: what stands in a text, what is put in its place, and what is then answered.
+fn first_wrong<'t>(alloc: Global, text: &str, table: &'t str) -> &'t str {
+    for row in table.trim().split('\n') {
+        let (old, rest) = cut(row, " | ");
+        let (new, wanted) = cut(rest, " | ");
+        if !is_answered(alloc, text, old, new, wanted) {
+            return row;
+        }
     }
+    ""
 }
 
-// Tries each row of a table: what stands in a text, what is put in its place, and what is then answered.
-fn each_is_answered<R: Abort>(rt: &R, alloc: Global, text: &str, table: &str) {
-    each_row(rt, table, |row| is_change_answered(alloc, text, row));
-}
-
-// Changes of the whole text, of the horizon and of what is in the ward.
-const PARTS: &str = r#"
-"days":1 | "days":1 | accepted
-}]}]} | }]}] | NotJson at $
-"rooms":[{"id":"r0","capacity":2}], |  | Missing at $.rooms
-"rooms":[{"id":"r0","capacity":2}], | "rooms":[], | Length at $.rooms
-"days":1 | "days":0 | Range at $.days
-"days":1 | "days":1.0 | Kind at $.days
-"length_of_stay":1 | "length_of_stay":0 | Range at $.occupants[0].length_of_stay
-"#;
-
-// Changes of names, weights and shifts.
+// Changes of days, names, weights and shifts.
 const NAMES: &str = r#"
+"days":1 | "days":1 | accepted
+"days":1 | "days":1.0 | Kind at $.days
 "child","adult" | "child","child" | Duplicate at $.age_groups[1]
 "nurse_eccessive_workload":1, | "nurse_excessive_workload":1, | accepted
 "nurse_eccessive_workload":1, | "nurse_excessive_workload":1,"nurse_eccessive_workload":1, | TwoWeights at $.weights
@@ -88,55 +75,8 @@ const PATIENTS: &str = r#"
 
 #[test]
 fn each_change_has_its_answer(rt: HostRuntime) {
-    each_is_answered(&rt, rt.alloc(), WARD, PARTS);
-    each_is_answered(&rt, rt.alloc(), WARD, NAMES);
-    each_is_answered(&rt, rt.alloc(), TWO_PATIENTS, PATIENTS);
-}
-
-// Whether two faults are answered by that of the first key.
-fn is_first_answered(alloc: Global) -> bool {
-    match changed(alloc, WARD, r#""rooms":[{"id":"r0","capacity":2}],"#, "") {
-        Ok(Some(text)) => is_answered(
-            alloc,
-            text.as_str(),
-            r#""days":1"#,
-            r#""days":0"#,
-            "Range at $.days",
-        ),
-        _ => false,
-    }
-}
-
-#[test]
-fn the_first_of_two_faults(rt: HostRuntime) {
-    assert!(rt; is_first_answered(rt.alloc()));
-}
-
-fn has_sizes(inst: &Instance) -> bool {
-    [inst.patients(), inst.persons(), inst.rooms(), inst.shifts()] == [2, 3, 2, 6]
-}
-
-// Whether the ward of two patients is read, with so many of each.
-fn is_read(alloc: Global) -> bool {
-    read_instance(alloc, TWO_PATIENTS.as_bytes()).is_ok_and(|inst| has_sizes(&inst))
-}
-
-// Whether a file without a byte is refused as a whole.
-fn is_nothing_refused(alloc: Global) -> bool {
-    let whole = Refusal {
-        fault: Fault::NotJson,
-        at: Place::whole(),
-    };
-    match read_instance(alloc, b"") {
-        Ok(_) => false,
-        Err(error) => error == InstanceError::Refused(whole),
-    }
-}
-
-#[test]
-fn an_instance_is_read(rt: HostRuntime) {
-    assert!(rt; is_read(rt.alloc()));
-    assert!(rt; is_nothing_refused(rt.alloc()));
+    none_is_wrong(&rt, first_wrong(rt.alloc(), WARD, NAMES));
+    none_is_wrong(&rt, first_wrong(rt.alloc(), TWO_PATIENTS, PATIENTS));
 }
 
 // The text of the ward of one day with a first key more, whose value is so many lists, each inside the one before.
@@ -148,21 +88,25 @@ fn nested(alloc: Global, depth: usize) -> Result<String, AllocError> {
 
 // Whether that is answered for such a file.
 fn is_answered_nested(alloc: Global, depth: usize, wanted: &str) -> bool {
-    nested(alloc, depth).is_ok_and(|first| is_answered(
-        alloc,
-        WARD,
-        r#"{"days":1"#,
-        first.as_str(),
-        wanted,
-    ))
+    match nested(alloc, depth) {
+        Ok(first) => is_answered(alloc, WARD, r#"{"days":1"#, first.as_str(), wanted),
+        Err(_) => false,
+    }
 }
 
 // A second number of days is the one that counts.
-const REPEATED: &str = r#"{"days":1 | {"days":0,"days":1 | accepted"#;
-
 #[test]
 fn deep_values_and_repeated_keys(rt: HostRuntime) {
-    assert!(rt; is_answered_nested(rt.alloc(), 126, "accepted"));
-    assert!(rt; is_answered_nested(rt.alloc(), 127, "NotJson at $"));
-    assert!(rt; is_change_answered(rt.alloc(), WARD, REPEATED));
+    let alloc = rt.alloc();
+    assert!(rt; is_answered_nested(alloc, 126, "accepted"));
+    assert!(rt; is_answered_nested(alloc, 127, "NotJson at $"));
+    assert!(rt;
+        is_answered(
+            alloc,
+            WARD,
+            r#"{"days":1"#,
+            r#"{"days":0,"days":1"#,
+            "accepted"
+        )
+    );
 }

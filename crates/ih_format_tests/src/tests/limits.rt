@@ -1,7 +1,7 @@
 //! The greatest number, the longest name and the longest list at each key of an instance file, and one more.
 
 use crate::tests::instance::is_answered;
-use crate::tests::rows::each_row;
+use crate::tests::rows::{cut, none_is_wrong};
 use ih_fixtures::{TWO_PATIENTS, WARD};
 use std::alloc::{AllocError, Global};
 
@@ -36,42 +36,33 @@ const OF_PATIENTS: &str = r#"
 [60,60] | [60,100000] | [60,100001] | Range at $.operating_theaters[0].availability[1]
 "#;
 
-// Whether a row's greatest number is accepted in a file, and one more is refused as the row says.
-fn is_greatest(alloc: Global, file: &str, row: &str) -> bool {
-    let mut fields = row.split(" | ");
-    match (fields.next(), fields.next(), fields.next(), fields.next()) {
-        (Some(old), Some(most), Some(more), Some(refusal)) => {
-            is_answered(alloc, file, old, most, "accepted")
-                && is_answered(alloc, file, old, more, refusal)
+// The first row whose greatest number isn't accepted in a file, or one more not refused as the row says.
+fn first_not_greatest<'t>(alloc: Global, file: &str, table: &'t str) -> &'t str {
+    for row in table.trim().split('\n') {
+        let (old, rest) = cut(row, " | ");
+        let (most, rest) = cut(rest, " | ");
+        let (more, refusal) = cut(rest, " | ");
+        if !is_answered(alloc, file, old, most, "accepted")
+            || !is_answered(alloc, file, old, more, refusal)
+        {
+            return row;
         }
-        _ => false,
     }
+    ""
 }
 
 #[test]
 fn greatest_numbers(rt: HostRuntime) {
-    let alloc = rt.alloc();
-    each_row(&rt, IN_THE_WARD, |row| is_greatest(alloc, WARD, row));
-    each_row(
+    none_is_wrong(&rt, first_not_greatest(rt.alloc(), WARD, IN_THE_WARD));
+    none_is_wrong(
         &rt,
-        OF_PATIENTS,
-        |row| is_greatest(alloc, TWO_PATIENTS, row),
+        first_not_greatest(rt.alloc(), TWO_PATIENTS, OF_PATIENTS),
     );
 }
 
-// A list of a file: what stands in the file, how more items begin and end in its place, an item's text before and
-// behind its number, how many more items there may be, and what is answered to so many and to one more.
-#[derive(Drop)]
-struct Most<'a> {
-    old: &'a str,
-    ends: (&'a str, &'a str),
-    item: (&'a str, &'a str),
-    more: u32,
-    within: &'a str,
-    beyond: &'a str,
-}
-
-// Each row is such a list. The items stand where there are three dots, and an item's number where there is a '#'.
+// Lists of the ward of one day: what stands in the file, how more items begin and end in its place, an item, how many
+// more items there may be, and what is answered to so many and to one more. The items stand where there are three dots,
+// and an item's number where there is a '#'.
 const LISTS_OF_THE_WARD: &str = r#"
 "age_groups":[ | "age_groups":[..., | "x#" | 61 | accepted | Length at $.age_groups
 "surgeons":[] | "surgeons":[...] | {"id":"x#","max_surgery_time":[1]} | 128 | accepted | Length at $.surgeons
@@ -87,19 +78,6 @@ const LISTS_OF_PATIENTS: &str = r#"
 "incompatible_room_ids":[ | "incompatible_room_ids":[..., | "x#" | 1023 | Unknown at $.patients[0].incompatible_room_ids[0] | Length at $.patients[0].incompatible_room_ids
 "#;
 
-// The list of a row.
-fn list_of_row(row: &str) -> Option<Most<'_>> {
-    let mut fields = row.split(" | ");
-    Some(Most {
-        old: fields.next()?,
-        ends: fields.next()?.split_once("...")?,
-        item: fields.next()?.split_once("#")?,
-        more: fields.next()?.parse::<u32>().ok()?,
-        within: fields.next()?,
-        beyond: fields.next()?,
-    })
-}
-
 // Adds an item with its number.
 fn add_item(
     alloc: Global,
@@ -113,44 +91,70 @@ fn add_item(
     text.push_str(item.1)
 }
 
-// So many more items of a list.
-fn listed(alloc: Global, most: &Most<'_>, count: u32) -> Result<String, AllocError> {
-    let mut text = String::from_str(alloc, most.ends.0)?;
+// So many more items of a list, between its ends.
+fn listed(
+    alloc: Global,
+    ends: (&str, &str),
+    item: (&str, &str),
+    count: u32,
+) -> Result<String, AllocError> {
+    let mut text = String::from_str(alloc, ends.0)?;
     for number in 0..count {
         if number > 0 {
             text.push_str(",")?;
         }
-        add_item(alloc, &mut text, most.item, number)?;
+        add_item(alloc, &mut text, item, number)?;
     }
-    text.push_str(most.ends.1)?;
+    text.push_str(ends.1)?;
     Ok(text)
 }
 
 // Whether that is answered where a list has so many more items.
-fn is_answered_with(alloc: Global, file: &str, most: &Most<'_>, count: u32, wanted: &str) -> bool {
-    match listed(alloc, most, count) {
-        Ok(items) => is_answered(alloc, file, most.old, items.as_str(), wanted),
+fn is_answered_with(
+    alloc: Global,
+    file: &str,
+    old: &str,
+    ends: &str,
+    item: &str,
+    count: u32,
+    wanted: &str,
+) -> bool {
+    match listed(alloc, cut(ends, "..."), cut(item, "#"), count) {
+        Ok(items) => is_answered(alloc, file, old, items.as_str(), wanted),
         Err(_) => false,
     }
 }
 
-fn is_limited(alloc: Global, file: &str, most: &Most<'_>) -> bool {
-    is_answered_with(alloc, file, most, most.more, most.within)
-        && is_answered_with(alloc, file, most, most.more.saturating_add(1), most.beyond)
+fn is_limited(alloc: Global, file: &str, row: &str) -> bool {
+    let (old, rest) = cut(row, " | ");
+    let (ends, rest) = cut(rest, " | ");
+    let (item, rest) = cut(rest, " | ");
+    let (more, rest) = cut(rest, " | ");
+    let (within, beyond) = cut(rest, " | ");
+    match more.parse::<u32>() {
+        Ok(more) => {
+            is_answered_with(alloc, file, old, ends, item, more, within)
+                && is_answered_with(alloc, file, old, ends, item, more.saturating_add(1), beyond)
+        }
+        Err(_) => false,
+    }
 }
 
-fn is_limit(alloc: Global, file: &str, row: &str) -> bool {
-    list_of_row(row).is_some_and(|most| is_limited(alloc, file, &most))
+fn first_not_limited<'t>(alloc: Global, file: &str, table: &'t str) -> &'t str {
+    for row in table.trim().split('\n') {
+        if !is_limited(alloc, file, row) {
+            return row;
+        }
+    }
+    ""
 }
 
 #[test]
 fn longest_lists(rt: HostRuntime) {
-    let alloc = rt.alloc();
-    each_row(&rt, LISTS_OF_THE_WARD, |row| is_limit(alloc, WARD, row));
-    each_row(
+    none_is_wrong(&rt, first_not_limited(rt.alloc(), WARD, LISTS_OF_THE_WARD));
+    none_is_wrong(
         &rt,
-        LISTS_OF_PATIENTS,
-        |row| is_limit(alloc, TWO_PATIENTS, row),
+        first_not_limited(rt.alloc(), TWO_PATIENTS, LISTS_OF_PATIENTS),
     );
 }
 

@@ -8,13 +8,29 @@ use std::rt::Files;
 
 // Whether a file has just these bytes.
 fn has<R: Files>(rt: &R, alloc: Global, shelf: &mut FileShelf, name: &str, wanted: &[u8]) -> bool {
-    shelf
-        .read(rt, alloc, name, 100)
-        .is_ok_and(|bytes| bytes.as_slice() == wanted)
+    match shelf.read(rt, alloc, name, 100) {
+        Ok(bytes) => bytes.as_slice() == wanted,
+        Err(_) => false,
+    }
 }
 
 fn is_absent<R: Files>(rt: &R, name: &str) -> bool {
     fs::symlink_metadata(rt, name).is_err()
+}
+
+fn is_link<R: Files>(rt: &R, name: &str) -> bool {
+    match fs::symlink_metadata(rt, name) {
+        Ok(found) => found.is_symlink(),
+        Err(_) => false,
+    }
+}
+
+// Whether who may use a file is told by these bits.
+fn has_mode<R: Files>(rt: &R, name: &str, mode: u32) -> bool {
+    match fs::metadata(rt, name) {
+        Ok(found) => found.permissions().mode() % 512 == mode,
+        Err(_) => false,
+    }
 }
 
 // Whether the file that a link leads to is replaced, and the link stays.
@@ -23,7 +39,7 @@ fn follows_links<R: Files>(rt: &R, alloc: Global, shelf: &mut FileShelf) -> bool
         && rt.symlink("aim", "link").is_ok()
         && has(rt, alloc, shelf, "link", b"old")
         && shelf.write(rt, "link", b"new").is_ok()
-        && fs::symlink_metadata(rt, "link").is_ok_and(|found| found.is_symlink())
+        && is_link(rt, "link")
         && has(rt, alloc, shelf, "aim", b"new")
 }
 
@@ -41,7 +57,7 @@ fn leaves_others<R: Files>(rt: &R, alloc: Global, shelf: &mut FileShelf) -> bool
 fn keeps_permissions<R: Files>(rt: &R, shelf: &mut FileShelf) -> bool {
     fs::set_permissions(rt, "plan", Permissions::from_mode(0o640)).is_ok()
         && shelf.write(rt, "plan", b"newest").is_ok()
-        && fs::metadata(rt, "plan").is_ok_and(|found| found.permissions().mode() % 512 == 0o640)
+        && has_mode(rt, "plan", 0o640)
 }
 
 // Whether a file is whole where its folder takes no new files. (Who may do all puts the new bytes there.)

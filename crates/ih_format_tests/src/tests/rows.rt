@@ -1,12 +1,13 @@
-//! Tables of examples: a text with a line for each row.
+//! Tables of examples: a text with a line for each row, since each item of an array is dear to prove.
 
 use std::process::Abort;
 
-/// Tries what is to hold of each row. The first row of which it doesn't hold ends the test, which then names that row.
-pub(crate) fn each_row<R: Abort, F: FnMut(&str) -> bool>(rt: &R, table: &str, mut holds: F)
-    requires { F.IsAlwaysCallable holds }
-{
-    for row in table.trim().split('\n') {
-        assert!(rt; holds(row), "{row}");
-    }
+/// What stands before and behind the first of these, or all and nothing.
+pub(crate) fn cut<'a>(text: &'a str, at: &str) -> (&'a str, &'a str) {
+    text.split_once(at).unwrap_or((text, ""))
+}
+
+/// Ends the test where a row is wrong, and names it.
+pub(crate) fn none_is_wrong<R: Abort>(rt: &R, row: &str) {
+    assert!(rt; row.is_empty(), "{row}");
 }

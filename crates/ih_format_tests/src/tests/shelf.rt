@@ -4,7 +4,7 @@ use ih_shelf::{
     FileShelf, Gate, HoldGate, MemShelf, MemSink, NeverFails, OpenGate, OutSink, ReadError, Shelf,
     Sink, WriteError,
 };
-use std::alloc::{AllocError, Global};
+use std::alloc::Global;
 use std::fs;
 use std::rt::Files;
 use std::sync::Wait;
@@ -18,9 +18,10 @@ fn reads<R: Files, S: Shelf>(
     limit: u64,
     wanted: &[u8],
 ) -> bool {
-    shelf
-        .read(rt, alloc, name, limit)
-        .is_ok_and(|bytes| bytes.as_slice() == wanted)
+    match shelf.read(rt, alloc, name, limit) {
+        Ok(bytes) => bytes.as_slice() == wanted,
+        Err(_) => false,
+    }
 }
 
 fn is_too_long<R: Files, S: Shelf>(
@@ -64,48 +65,16 @@ fn takes_two<R: Files>(rt: &R, shelf: &mut MemShelf) -> bool {
         && shelf.faults() == 2
 }
 
-// A shelf in memory whose one file has these bytes.
-fn holding(alloc: Global, bytes: &[u8]) -> Result<MemShelf, AllocError> {
-    let mut shelf = MemShelf::new(alloc);
-    shelf.store("a", bytes)?;
-    Ok(shelf)
-}
-
 fn gives_and_takes<R: Files>(rt: &R, alloc: Global) -> bool {
-    match holding(alloc, b"abcd") {
-        Ok(mut shelf) => gives_four(rt, alloc, &mut shelf) && takes_two(rt, &mut shelf),
-        Err(_) => false,
-    }
+    let mut shelf = MemShelf::new(alloc);
+    shelf.store("a", b"abcd").is_ok()
+        && gives_four(rt, alloc, &mut shelf)
+        && takes_two(rt, &mut shelf)
 }
 
 #[test]
 fn memory_shelf(rt: HostRuntime) {
     assert!(rt; gives_and_takes(&rt, rt.alloc()));
-}
-
-// Three reads were made when the fifth is planned to fail. After the fault, reads go on as before.
-fn faults_once<R: Files>(rt: &R, alloc: Global, shelf: &mut MemShelf) -> bool {
-    for nth in 1..7u32 {
-        if nth == 4 && shelf.fail_read(5).is_err() {
-            return false;
-        }
-        if faults(rt, alloc, shelf, "a") != (nth == 5) {
-            return false;
-        }
-    }
-    shelf.faults() == 1
-}
-
-fn has_one_fault<R: Files>(rt: &R, alloc: Global) -> bool {
-    match holding(alloc, b"x") {
-        Ok(mut shelf) => faults_once(rt, alloc, &mut shelf),
-        Err(_) => false,
-    }
-}
-
-#[test]
-fn planned_fault_comes_once(rt: HostRuntime) {
-    assert!(rt; has_one_fault(&rt, rt.alloc()));
 }
 
 // Whether a shelf that never fails has four bytes under one name, and nothing under any other.
@@ -127,14 +96,26 @@ fn shelf_that_never_fails(rt: HostRuntime) {
     assert!(rt; never_fails(&rt, rt.alloc()));
 }
 
-// Whether a file of over a million bytes, which is read in many pieces, comes back where that many are allowed, and is
-// too long where one less is.
+// Whether bytes come back where as many are allowed, and are too long where one less is.
+fn is_whole<R: Files, S: Shelf>(
+    rt: &R,
+    alloc: Global,
+    shelf: &mut S,
+    name: &str,
+    bytes: &[u8],
+) -> bool {
+    let limit = bytes.len() as u64;
+    shelf.write(rt, name, bytes).is_ok()
+        && reads(rt, alloc, shelf, name, limit, bytes)
+        && is_too_long(rt, alloc, shelf, name, limit.saturating_sub(1))
+}
+
+// The same of over a million bytes, which are read in many pieces.
 fn is_long<R: Files, S: Shelf>(rt: &R, alloc: Global, shelf: &mut S, name: &str) -> bool {
-    vec![in alloc; 7u8; 1_100_000].is_ok_and(|bytes| {
-        shelf.write(rt, name, bytes.as_slice()).is_ok()
-            && reads(rt, alloc, shelf, name, 1_100_000, bytes.as_slice())
-            && is_too_long(rt, alloc, shelf, name, 1_099_999)
-    })
+    match vec![in alloc; 7u8; 1_100_000] {
+        Ok(bytes) => is_whole(rt, alloc, shelf, name, bytes.as_slice()),
+        Err(_) => false,
+    }
 }
 
 // Whether a write faults: where there is no such folder, on a device that is full, and on a folder.

@@ -18,12 +18,18 @@ const WRITTEN: &str =
 fn is_written(alloc: Global, inst: &Instance, plan: &Plan) -> bool
     requires { IsPlanOf inst.now.draft plan.now }
 {
-    write_solution(alloc, inst, plan).is_ok_and(|text| text.as_slice() == WRITTEN.as_bytes())
+    match write_solution(alloc, inst, plan) {
+        Ok(text) => text.as_slice() == WRITTEN.as_bytes(),
+        Err(_) => false,
+    }
 }
 
 // Whether the timetable of a file is read, and then written so.
 fn is_written_again(alloc: Global, inst: &Instance, file: &str) -> bool {
-    read_solution(alloc, inst, file.as_bytes()).is_ok_and(|plan| is_written(alloc, inst, &plan))
+    match read_solution(alloc, inst, file.as_bytes()) {
+        Ok(plan) => is_written(alloc, inst, &plan),
+        Err(_) => false,
+    }
 }
 
 fn are_written_again(alloc: Global, inst: &Instance) -> bool {

@@ -1,11 +1,8 @@
-//! The example of two patients, two rooms and two nurses over two days.
+//! The data of the ward of two patients, as they are and with a room of too many beds.
 
-ghost use Rattle.ih_fixtures.specs.Two.{IsOfTwo};
-
-use ih_fixtures::{on_two_patients, share};
-use ih_tables::{
-    Bill, Draft, Instance, List, Name, NurseNo, PatientNo, Room, RoomNo, Shift, TheatreNo, Weights,
-};
+use ih_fixtures::TWO_PATIENTS;
+use ih_instance::read_instance;
+use ih_tables::{Draft, Instance, List, Name, Room};
 use std::alloc::{AllocError, Global};
 
 // Whether there are as many of each kind as in the ward of two patients, in the order in which they are counted.
@@ -24,86 +21,64 @@ fn has_sizes(inst: &Instance) -> bool {
     sizes == [2, 2, 1, 3, 2, 2, 1, 2, 6] && inst.weights().w == [5, 10, 2, 1, 30, 7, 4, 100]
 }
 
-fn finds_names(inst: &Instance) -> bool {
-    inst.find_patient("p1") == Some(PatientNo(1))
-        && inst.find_room("r1") == Some(RoomNo(1))
-        && inst.find_theatre("t1") == Some(TheatreNo(1))
-        && inst.find_nurse("n1") == Some(NurseNo(1))
-        && inst.find_shift_type("night") == Some(2)
-        && inst.find_room("p1") == None
+fn is_sealed(alloc: Global, draft: Draft) -> bool {
+    if !draft.is_valid() {
+        return false;
+    }
+    match Instance::seal(alloc, draft) {
+        Ok(inst) => has_sizes(&inst),
+        Err(_) => false,
+    }
 }
 
-fn has_loads(inst: &Instance) -> bool
-    requires { IsOfTwo inst.now.draft }
-{
-    inst.works(NurseNo(1), Shift(4)) == Some(10)
-        && inst.working(Shift(4)).len() == 2
-        && inst.shift_type(2).as_str() == "night"
-}
-
-fn is_the_example(inst: &Instance) -> bool
-    requires { IsOfTwo inst.now.draft }
-{
-    share(inst);
-    has_sizes(inst) && finds_names(inst) && has_loads(inst)
+fn seals_two(alloc: Global) -> bool {
+    match read_instance(alloc, TWO_PATIENTS.as_bytes()) {
+        Ok(inst) => is_sealed(alloc, inst.draft),
+        Err(_) => false,
+    }
 }
 
 #[test]
-fn the_example_is_valid(rt: HostRuntime) {
-    assert!(rt; on_two_patients(rt.alloc(), &[], is_the_example));
+fn a_draft_is_sealed(rt: HostRuntime) {
+    assert!(rt; seals_two(rt.alloc()));
 }
 
-fn names(alloc: Global, texts: &[&str]) -> Result<List<Name>, AllocError> {
-    let mut names = Vec::new(alloc);
-    for text in texts {
-        names.push(Name::new(String::from_str(alloc, text)?))?;
+fn room(alloc: Global, id: &str, capacity: u32) -> Result<Room, AllocError> {
+    let id = Name::new(String::from_str(alloc, id)?);
+    Ok(Room { id, capacity })
+}
+
+// The ward's rooms, but so many beds in the first.
+fn rooms(alloc: Global, beds: u32) -> Result<List<Room>, AllocError> {
+    let mut rooms = Vec::new(alloc);
+    rooms.push(room(alloc, "r0", beds)?)?;
+    rooms.push(room(alloc, "r1", 1)?)?;
+    Ok(List::new(rooms))
+}
+
+// Whether the draft is valid with these rooms, where that is said.
+fn is_valid_with(alloc: Global, draft: &mut Draft, beds: u32, valid: bool) -> bool {
+    match rooms(alloc, beds) {
+        Ok(rooms) => {
+            draft.rooms = rooms;
+            draft.is_valid() == valid
+        }
+        Err(_) => false,
     }
-    Ok(List::new(names))
 }
 
-// One room of so many beds.
-fn rooms(alloc: Global, capacity: u32) -> Result<List<Room>, AllocError> {
-    let id = Name::new(String::from_str(alloc, "r0")?);
-    Ok(List::new(vec![in alloc; Room { id, capacity }]?))
-}
-
-// A ward of nothing but a room of so many beds.
-fn ward(alloc: Global, beds: u32) -> Result<Draft, AllocError> {
-    let shift_types = names(alloc, &["early", "late", "night"])?;
-    let rooms = rooms(alloc, beds)?;
-    Ok(Draft {
-        days: 1,
-        skill_levels: 1,
-        shift_types,
-        age_groups: List::new(Vec::new(alloc)),
-        weights: Weights { w: [0; 8] },
-        surgeons: List::new(Vec::new(alloc)),
-        operating_theaters: List::new(Vec::new(alloc)),
-        rooms,
-        nurses: List::new(Vec::new(alloc)),
-        occupants: List::new(Vec::new(alloc)),
-        patients: List::new(Vec::new(alloc)),
-    })
-}
-
-// Whether such a ward is valid, where that is said.
-fn is_valid(alloc: Global, beds: u32, valid: bool) -> bool {
-    ward(alloc, beds).is_ok_and(|draft| draft.is_valid() == valid)
+fn has_few_beds(alloc: Global) -> bool {
+    match read_instance(alloc, TWO_PATIENTS.as_bytes()) {
+        Ok(inst) => {
+            let mut draft = inst.draft;
+            is_valid_with(alloc, &mut draft, 1000, true)
+                && is_valid_with(alloc, &mut draft, 1001, false)
+        }
+        Err(_) => false,
+    }
 }
 
 #[test]
 fn a_room_of_too_many_beds_is_refused(rt: HostRuntime) {
-    assert!(rt; is_valid(rt.alloc(), 1000, true));
-    assert!(rt; is_valid(rt.alloc(), 1001, false));
-}
-
-#[test]
-fn bills_are_added(rt: HostRuntime) {
-    let one = Bill {
-        v: [1, 0, 0, 0, 0, 0, 0, 0, 2],
-        s: [1, 2, 2, 0, 1, 0, 0, 1],
-    };
-    let two = one.add(&one);
-    assert_eq!(rt; two.v, [2, 0, 0, 0, 0, 0, 0, 0, 4]);
-    assert_eq!(rt; two.sub(&one), one);
+    assert!(rt; has_few_beds(rt.alloc()));
 }

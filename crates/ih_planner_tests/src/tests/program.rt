@@ -2,9 +2,10 @@
 
 use ih_answers::Status;
 use ih_planning::run_planner;
-use ih_scripts::{Event, TestGate};
+use ih_scripts::{TestGate, first_wrong};
 use ih_shelf::{MemShelf, MemSink};
 use std::alloc::Global;
+use std::process::Abort;
 use std::rt::Files;
 use std::sync::Wait;
 use std::thread::Threads;
@@ -21,23 +22,11 @@ fn status_of<R: Files + Print + Threads + Wait + Sync>(
     run_planner(rt, alloc, words, shelf, out)
 }
 
-/// Whether each event comes out so, from no files on.
-pub fn goes<R: Files + Print + Threads + Wait + Sync>(
-    rt: &R,
-    alloc: Global,
-    events: &[Event<'_>],
-) -> bool {
+/// Tries a script, from no files on. The first event that doesn't come out so ends the test, which then names it.
+pub fn goes<R: Files + Print + Threads + Wait + Abort + Sync>(rt: &R, alloc: Global, script: &str) {
     let call = |words: &[String], shelf: &mut MemShelf, out: &mut MemSink, _gate: &TestGate| -> Status {
         status_of(rt, alloc, words, shelf, out)
     };
-    ih_scripts::goes(alloc, &call, events)
-}
-
-/// The same of several scripts, each from no files on.
-pub fn all_go<R: Files + Print + Threads + Wait + Sync>(
-    rt: &R,
-    alloc: Global,
-    scripts: &[&[Event<'_>]],
-) -> bool {
-    scripts.iter().all(|events| goes(rt, alloc, events))
+    let wrong = first_wrong(alloc, &call, script);
+    assert!(rt; wrong.is_empty(), "{wrong}");
 }

@@ -1,8 +1,17 @@
 //! The whole page of the ward of one day.
 
-/// The page of the timetable in which the nurse has the room in all shifts. Nobody is left out, and the night's nurse
-/// has a skill level less than the occupant needs.
-pub const WARD_PAGE: &str = r"<!DOCTYPE html>
+use crate::tests::program::goes;
+
+// The page of the timetable in which the nurse has the room in all shifts. Nobody is left out, and the night's nurse has
+// a skill level less than the occupant needs. It is written in place of an older one, if there is one. Nothing is said,
+// so a full standard output does no harm.
+const PAGE: &str = r"
+> lay ward covered
+> store p
+an older page
+> 0 view i s p
+> has p
+<!DOCTYPE html>
 <html lang=en><meta charset=utf-8><meta name=viewport content='width=device-width,initial-scale=1'><title>Timetable: cost 12</title><style>
 :root{color-scheme:light dark;--fg:#111;--bg:#fff;--line:#bbb;--bar:#0072b2;--bar2:#8a5a00;--on:#fff;--bad:#b34700;--f1:#0072b21f;--f2:#0072b23d;--f3:#0072b266;--f4:#0072b294}
 @media(prefers-color-scheme:dark){:root{--fg:#eee;--bg:#121212;--line:#555;--bar:#56b4e9;--bar2:#e69f00;--on:#000;--bad:#f0a030;--f1:#56b4e929;--f2:#56b4e947;--f3:#56b4e966;--f4:#56b4e985}}
@@ -134,4 +143,11 @@ section th:nth-child(-n+4){width:5em}thead th:first-child{width:8em}.v th:first-
 <ul>
 </ul>
 </main>
+> cut 1 0 view i s q
+> same p q
 ";
+
+#[test]
+fn a_page_is_written(rt: HostRuntime) {
+    goes(&rt, rt.alloc(), PAGE);
+}

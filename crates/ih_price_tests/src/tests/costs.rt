@@ -108,19 +108,23 @@ fn hold_with_a_list(alloc: Global, inst: &Instance, ledgers: &mut Ledgers<'_>) -
     requires instance { ledgers.old.instance ≡ inst.now.draft }
     requires two { IsOfTwo inst.now.draft }
 {
-    CellList::new(alloc, Numbering::of(inst)).is_ok_and(|mut foot| are_right(
-        inst, ledgers, &mut foot,
-    ))
+    match CellList::new(alloc, Numbering::of(inst)) {
+        Ok(mut foot) => are_right(inst, ledgers, &mut foot),
+        Err(_) => false,
+    }
 }
 
 fn hold(alloc: Global, inst: &Instance, plan: &Plan) -> bool
     requires two { IsOfTwo inst.now.draft }
     requires plan { IsPlanOf inst.now.draft plan.now }
 {
-    Ledgers::new(alloc, inst, plan).is_ok_and(|mut ledgers| {
-        share(&ledgers);
-        hold_with_a_list(alloc, inst, &mut ledgers)
-    })
+    match Ledgers::new(alloc, inst, plan) {
+        Ok(mut ledgers) => {
+            share(&ledgers);
+            hold_with_a_list(alloc, inst, &mut ledgers)
+        }
+        Err(_) => false,
+    }
 }
 
 #[test]

@@ -92,16 +92,22 @@ fn gathers(alloc: Global, inst: &Instance) -> bool {
     if numbering.count() != 39 {
         return false;
     }
-    CellList::new(alloc, numbering).is_ok_and(|mut list| {
-        share(&list);
-        are_gathered(&mut list)
-    })
+    match CellList::new(alloc, numbering) {
+        Ok(mut list) => {
+            share(&list);
+            are_gathered(&mut list)
+        }
+        Err(_) => false,
+    }
 }
 
 fn looks_at(alloc: Global, inst: &Instance) -> bool
     requires { IsOfTwo inst.now.draft }
 {
-    CellList::new(alloc, Numbering::of(inst)).is_ok_and(|mut list| are_looked_at(inst, &mut list))
+    match CellList::new(alloc, Numbering::of(inst)) {
+        Ok(mut list) => are_looked_at(inst, &mut list),
+        Err(_) => false,
+    }
 }
 
 fn touches(alloc: Global, inst: &Instance) -> bool
@@ -113,12 +119,10 @@ fn touches(alloc: Global, inst: &Instance) -> bool
     let Ok(mut members) = RoomDays::new(alloc, inst) else {
         return false;
     };
-    CellList::new(alloc, Numbering::of(inst)).is_ok_and(|mut list| is_touched(
-        inst,
-        &mut plan,
-        &mut members,
-        &mut list,
-    ))
+    match CellList::new(alloc, Numbering::of(inst)) {
+        Ok(mut list) => is_touched(inst, &mut plan, &mut members, &mut list),
+        Err(_) => false,
+    }
 }
 
 #[test]

@@ -24,7 +24,10 @@ fn nodes_of(alloc: Global, links: &Links, head: u32) -> Result<Vec<u32>, AllocEr
 fn has_nodes(alloc: Global, links: &Links, head: u32, wanted: &[u32]) -> bool
     requires { head < length links.now.lists }
 {
-    nodes_of(alloc, links, head).is_ok_and(|nodes| nodes.as_slice() == wanted)
+    match nodes_of(alloc, links, head) {
+        Ok(nodes) => nodes.as_slice() == wanted,
+        Err(_) => false,
+    }
 }
 
 // Whether the first list has just the node 0, and the second one node.
@@ -52,10 +55,13 @@ fn closes_up(alloc: Global, links: &mut Links) -> bool
 }
 
 fn lists_close_up(alloc: Global) -> bool {
-    Links::new(alloc, 2, 3).is_ok_and(|mut links| {
-        share(&links);
-        closes_up(alloc, &mut links)
-    })
+    match Links::new(alloc, 2, 3) {
+        Ok(mut links) => {
+            share(&links);
+            closes_up(alloc, &mut links)
+        }
+        Err(_) => false,
+    }
 }
 
 // Two of very many nodes, in one list.
@@ -71,7 +77,10 @@ fn keeps_far_nodes(alloc: Global, links: &mut Links) -> bool
 }
 
 fn has_room_for_many(alloc: Global) -> bool {
-    Links::new(alloc, 2, 430_080).is_ok_and(|mut links| keeps_far_nodes(alloc, &mut links))
+    match Links::new(alloc, 2, 430_080) {
+        Ok(mut links) => keeps_far_nodes(alloc, &mut links),
+        Err(_) => false,
+    }
 }
 
 #[test]

@@ -72,7 +72,10 @@ fn are_swapped(inst: &Instance, plan: &Plan) -> bool
 fn swap(alloc: Global, inst: &Instance) -> bool
     requires { IsOfTwo inst.now.draft }
 {
-    two_stays(alloc, inst).is_ok_and(|plan| are_swapped(inst, &plan))
+    match two_stays(alloc, inst) {
+        Ok(plan) => are_swapped(inst, &plan),
+        Err(_) => false,
+    }
 }
 
 #[test]

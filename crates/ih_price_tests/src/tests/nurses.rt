@@ -61,15 +61,21 @@ fn one_is_right_once_one_left(inst: &Instance, ledger: &mut Nurses) -> bool
 pub fn hold_once_one_left(alloc: Global, inst: &Instance) -> bool
     requires { IsOfTwo inst.now.draft }
 {
-    Nurses::new(alloc, inst).is_ok_and(|mut ledger| one_is_right_once_one_left(inst, &mut ledger))
+    match Nurses::new(alloc, inst) {
+        Ok(mut ledger) => one_is_right_once_one_left(inst, &mut ledger),
+        Err(_) => false,
+    }
 }
 
 // A nurse lacks skill in the night, while the early shift has none.
 pub fn hold(alloc: Global, inst: &Instance) -> bool
     requires { IsOfTwo inst.now.draft }
 {
-    Nurses::new(alloc, inst).is_ok_and(|mut ledger| {
-        share(&ledger);
-        one_is_right(inst, &mut ledger)
-    })
+    match Nurses::new(alloc, inst) {
+        Ok(mut ledger) => {
+            share(&ledger);
+            one_is_right(inst, &mut ledger)
+        }
+        Err(_) => false,
+    }
 }

@@ -32,18 +32,22 @@ fn are_replaced(alloc: Global, inst: &Instance, blank: &Plan) -> bool
     requires two { IsOfTwo inst.now.draft }
     requires blank { blank.now ≡ empty inst.now.draft }
 {
-    blank
-        .try_clone(alloc)
-        .is_ok_and(|mut plan| are_written_over(inst, blank, &mut plan))
+    match blank.try_clone(alloc) {
+        Ok(mut plan) => are_written_over(inst, blank, &mut plan),
+        Err(_) => false,
+    }
 }
 
 fn hold(alloc: Global, inst: &Instance) -> bool
     requires { IsOfTwo inst.now.draft }
 {
-    Plan::empty(alloc, inst).is_ok_and(|blank| {
-        share(&blank);
-        are_replaced(alloc, inst, &blank)
-    })
+    match Plan::empty(alloc, inst) {
+        Ok(blank) => {
+            share(&blank);
+            are_replaced(alloc, inst, &blank)
+        }
+        Err(_) => false,
+    }
 }
 
 #[test]

@@ -57,15 +57,21 @@ fn is_right_once_one_left(inst: &Instance, ledger: &mut RoomDays) -> bool
 pub fn hold_once_one_left(alloc: Global, inst: &Instance) -> bool
     requires { IsOfTwo inst.now.draft }
 {
-    RoomDays::new(alloc, inst).is_ok_and(|mut ledger| is_right_once_one_left(inst, &mut ledger))
+    match RoomDays::new(alloc, inst) {
+        Ok(mut ledger) => is_right_once_one_left(inst, &mut ledger),
+        Err(_) => false,
+    }
 }
 
 // A patient joins an occupant.
 pub fn hold(alloc: Global, inst: &Instance) -> bool
     requires { IsOfTwo inst.now.draft }
 {
-    RoomDays::new(alloc, inst).is_ok_and(|mut ledger| {
-        share(&ledger);
-        is_right(inst, &mut ledger)
-    })
+    match RoomDays::new(alloc, inst) {
+        Ok(mut ledger) => {
+            share(&ledger);
+            is_right(inst, &mut ledger)
+        }
+        Err(_) => false,
+    }
 }

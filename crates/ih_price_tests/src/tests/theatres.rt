@@ -43,15 +43,21 @@ fn are_right_once_one_left(inst: &Instance, ledger: &mut Theatres) -> bool
 pub fn hold_once_one_left(alloc: Global, inst: &Instance) -> bool
     requires { IsOfTwo inst.now.draft }
 {
-    Theatres::new(alloc, inst).is_ok_and(|mut ledger| are_right_once_one_left(inst, &mut ledger))
+    match Theatres::new(alloc, inst) {
+        Ok(mut ledger) => are_right_once_one_left(inst, &mut ledger),
+        Err(_) => false,
+    }
 }
 
 // A surgery opens a theatre.
 pub fn hold(alloc: Global, inst: &Instance) -> bool
     requires { IsOfTwo inst.now.draft }
 {
-    Theatres::new(alloc, inst).is_ok_and(|mut ledger| {
-        share(&ledger);
-        are_right(inst, &mut ledger)
-    })
+    match Theatres::new(alloc, inst) {
+        Ok(mut ledger) => {
+            share(&ledger);
+            are_right(inst, &mut ledger)
+        }
+        Err(_) => false,
+    }
 }

@@ -2,7 +2,6 @@
 
 ghost use Rattle.ih_plan.specs.Timetable.{IsPlanOf};
 
-use crate::tests::rounds::TWO_JOURNALS;
 use ih_fixtures::WARD;
 use ih_instance::read_instance;
 use ih_journal::{Entry, Options};
@@ -44,6 +43,13 @@ impl Searcher for AtDesk {
         history_at_desk(rt, alloc, inst, start, options, &OpenGate)
     }
 }
+
+// No move of the second round changes the only cheapest timetable.
+const TWO_JOURNALS: &str = "ihjournal 1 seed=0 workers=1 moves=1 heat=0 hard=1000
+0 0 0 0 nurserun:0,0,0,5 0,0,0,0,0,0,0,0,-3,0,1,1,0,0,0,0,0 accepted
+ihjournal 1 seed=64 workers=1 moves=1 heat=0 hard=1000
+0 0 0 0 swapnurses:1,0,0 0,0,0,0,0,0,0,0,0,0,0,0,0,0,0,0,0 accepted
+";
 
 // Whether the best comes after the only move of the first round.
 fn is_after_first_move(end: &RoundsEnd) -> bool {

@@ -1,9 +1,10 @@
 //! The program whose calls are tried.
 
-use ih_scripts::{Event, TestGate, words_of};
+use ih_scripts::{TestGate, first_wrong, words_of};
 use ih_shelf::{Gate, MemShelf, MemSink, Shelf};
 use ih_top::{Status, run};
 use std::alloc::Global;
+use std::process::Abort;
 use std::rt::Files;
 use std::sync::Wait;
 use std::thread::Threads;
@@ -20,39 +21,26 @@ fn status_of<R: Files + Print + Threads + Wait + Sync, S: Shelf, G: Gate>(
     run(rt, alloc, words, shelf, out, gate)
 }
 
-/// Whether each event comes out so, from no files on.
-pub fn goes<R: Files + Print + Threads + Wait + Sync>(
-    rt: &R,
-    alloc: Global,
-    events: &[Event<'_>],
-) -> bool {
+/// Tries a script, from no files on. The first event that doesn't come out so ends the test, which then names it.
+pub fn goes<R: Files + Print + Threads + Wait + Abort + Sync>(rt: &R, alloc: Global, script: &str) {
     let call = |words: &[String], shelf: &mut MemShelf, out: &mut MemSink, gate: &TestGate| -> Status {
         status_of(rt, alloc, words, shelf, out, gate)
     };
-    ih_scripts::goes(alloc, &call, events)
+    let wrong = first_wrong(alloc, &call, script);
+    assert!(rt; wrong.is_empty(), "{wrong}");
 }
 
-/// The same of several scripts, each from no files on.
-pub fn all_go<R: Files + Print + Threads + Wait + Sync>(
-    rt: &R,
-    alloc: Global,
-    scripts: &[&[Event<'_>]],
-) -> bool {
-    scripts.iter().all(|events| goes(rt, alloc, events))
-}
-
-/// Whether a call by the words of a line ends with this status, over a shelf and past a gate of the test's own.
-pub fn exits_past<R: Files + Print + Threads + Wait + Sync, S: Shelf, G: Gate>(
+/// Whether a call by the words of a line is done, over a shelf of the test's own.
+pub fn is_done_over<R: Files + Print + Threads + Wait + Sync, S: Shelf, G: Gate>(
     rt: &R,
     alloc: Global,
     line: &str,
     shelf: &mut S,
     out: &mut MemSink,
     gate: &G,
-    status: Status,
 ) -> bool {
     match words_of(alloc, line) {
-        Ok(words) => status_of(rt, alloc, words.as_slice(), shelf, out, gate) == status,
+        Ok(words) => status_of(rt, alloc, words.as_slice(), shelf, out, gate) == Status::Done,
         Err(_) => false,
     }
 }

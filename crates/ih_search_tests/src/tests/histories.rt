@@ -3,9 +3,8 @@
 ghost use Rattle.std.specs.Prelude.{◌≡◌, IfSome};
 ghost use Rattle.ih_plan.specs.Timetable.{IsPlanOf};
 
-use ih_cellbook::Book;
+use ih_cellbook::{Book, plan_at};
 use ih_fixtures::is_dearer_by;
-use ih_history::plan_at;
 use ih_journal::{Entry, Options, Verdict, line};
 use ih_plan::Plan;
 use ih_solution::write_solution;
