@@ -62,7 +62,7 @@ pub(crate) fn judge_by_counters<O: Offers>(
 {
     if offer.frozen() {
         Verdict::Frozen
-    } else if offer.price().score(options.hard, inst.weights()) > options.theta(offer.number()) {
+    } else if inst.score_of(options.hard, &offer.price()) > options.theta(offer.number()) {
         Verdict::Declined
     } else {
         compare(inst, counters, offer.reads().as_slice())

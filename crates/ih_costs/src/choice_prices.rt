@@ -6,6 +6,9 @@ ghost use Rattle.ih_plan.specs.{BillOf.change_of_bill};
 ghost use Rattle.ih_costs.specs.CellLedgers.{AreLedgers, timetable_of};
 
 use crate::cell_ledgers::CellLedgers;
+use ih_tables::bill_numbers::{
+    CONTINUITY_OF_CARE, EXCESS_WORKLOAD, NURSE_PRESENCE, NURSE_SKILL, UNCOVERED_ROOM,
+};
 use ih_tables::{Bill, Instance, NurseNo, RoomNo, Shift};
 
 impl CellLedgers {
@@ -27,18 +30,12 @@ impl CellLedgers {
             return Bill::zero();
         }
         let delta = self.nurses.choice_delta(inst, room, shift, new);
-        Bill {
-            v: [0, 0, 0, 0, 0, 0, 0, delta.off, delta.uncovered],
-            s: [
-                0,
-                delta.missing_skill,
-                delta.nurses_seen,
-                delta.overload,
-                0,
-                0,
-                0,
-                0,
-            ],
-        }
+        let mut bill = Bill::zero();
+        bill.v[NURSE_PRESENCE] = delta.off;
+        bill.v[UNCOVERED_ROOM] = delta.uncovered;
+        bill.s[NURSE_SKILL] = delta.missing_skill;
+        bill.s[CONTINUITY_OF_CARE] = delta.nurses_seen;
+        bill.s[EXCESS_WORKLOAD] = delta.overload;
+        bill
     }
 }

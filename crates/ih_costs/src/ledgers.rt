@@ -164,18 +164,6 @@ impl<'a> Ledgers<'a> {
         ensures same { self.new ≡ self.old }
     {
         self.foot(mv, foot);
-        self.price_alone(mv)
-    }
-
-    /// The same without the footprint, which `foot` tells.
-    #[inline(always)]
-    pub fn price_alone(&mut self, mv: &Move) -> Bill
-        requires { IsMoveOf self.old.instance mv.now }
-        ensures price { result
-            ≡ change_of_bill self.old.instance self.old.plan (after self.old.instance self.old.plan mv.now) }
-        ensures within { IsWithin (10 ^ 11) result }
-        ensures same { self.new ≡ self.old }
-    {
         price_of(self.inst, &mut self.cells, &mut self.scratch.writes, mv)
     }
 
@@ -199,7 +187,9 @@ impl<'a> Ledgers<'a> {
         ensures same { self.new ≡ self.old }
     {
         match moves.split_first() {
-            Some((mv, later)) if later.len() == 0 => self.price_alone(mv),
+            Some((mv, later)) if later.len() == 0 => {
+                price_of(self.inst, &mut self.cells, &mut self.scratch.writes, mv)
+            }
             _ => self.price_row(moves),
         }
     }

@@ -102,29 +102,12 @@ impl CellLedgers {
         let surgeon = inst.patient(patient).surgeon_id;
         let of_theatre = self.theatres.theatre_delta(inst, patient, old, at);
         let of_surgeon = self.theatres.surgeon_delta(inst, surgeon, patient, old, at);
-        Bill {
-            v: [
-                0,
-                0,
-                of_surgeon.v[SURGEON_OVERRUN],
-                of_theatre.v[THEATRE_OVERRUN],
-                0,
-                0,
-                0,
-                0,
-                0,
-            ],
-            s: [
-                0,
-                0,
-                0,
-                0,
-                of_theatre.s[OPEN_THEATRE],
-                of_surgeon.s[SURGEON_TRANSFER],
-                0,
-                0,
-            ],
-        }
+        let mut bill = Bill::zero();
+        bill.v[SURGEON_OVERRUN] = of_surgeon.v[SURGEON_OVERRUN];
+        bill.v[THEATRE_OVERRUN] = of_theatre.v[THEATRE_OVERRUN];
+        bill.s[OPEN_THEATRE] = of_theatre.s[OPEN_THEATRE];
+        bill.s[SURGEON_TRANSFER] = of_surgeon.s[SURGEON_TRANSFER];
+        bill
     }
 
     // What a placement costs once it is made, less what its cells cost without it.

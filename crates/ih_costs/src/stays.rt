@@ -6,6 +6,9 @@ ghost use Rattle.ih_plan.specs.{Sums.bit, BillOf.as_bill};
 ghost use Rattle.ih_costs.specs.StayPart.{stay_part};
 
 use ih_plan::{Placement, bit};
+use ih_tables::bill_numbers::{
+    ADMISSION_WINDOW, INCOMPATIBLE_ROOM, PATIENT_DELAY, UNSCHEDULED_MANDATORY, UNSCHEDULED_OPTIONAL,
+};
 use ih_tables::{Bill, Patient};
 use ih_validate::{delay, in_bad_room, outside_window};
 
@@ -53,10 +56,13 @@ pub fn stay_bill(patient: &Patient, stay: Option<Placement>) -> Bill
     let outside = bit(outside_window(patient, stay)) as i64;
     let late = delay(patient, stay) as i64;
     let left = bit(is_left(patient, stay)) as i64;
-    Bill {
-        v: [0, bad, 0, 0, out, outside, 0, 0, 0],
-        s: [0, 0, 0, 0, 0, 0, late, left],
-    }
+    let mut bill = Bill::zero();
+    bill.v[INCOMPATIBLE_ROOM] = bad;
+    bill.v[UNSCHEDULED_MANDATORY] = out;
+    bill.v[ADMISSION_WINDOW] = outside;
+    bill.s[PATIENT_DELAY] = late;
+    bill.s[UNSCHEDULED_OPTIONAL] = left;
+    bill
 }
 
 /// What a placement of a patient costs by itself, less what it costs to leave the patient out.
@@ -70,8 +76,11 @@ pub fn stay_change(patient: &Patient, at: Placement) -> Bill
     let outside = mark_increase(outside_window(patient, stay), false);
     let late = delay_increase(delay(patient, stay), 0);
     let left = mark_increase(is_left(patient, stay), is_left(patient, None));
-    Bill {
-        v: [0, bad, 0, 0, out, outside, 0, 0, 0],
-        s: [0, 0, 0, 0, 0, 0, late, left],
-    }
+    let mut bill = Bill::zero();
+    bill.v[INCOMPATIBLE_ROOM] = bad;
+    bill.v[UNSCHEDULED_MANDATORY] = out;
+    bill.v[ADMISSION_WINDOW] = outside;
+    bill.s[PATIENT_DELAY] = late;
+    bill.s[UNSCHEDULED_OPTIONAL] = left;
+    bill
 }

@@ -17,5 +17,5 @@ pub use filling::fill;
 pub use laws::choices_are_first_least;
 pub use making::{is_open, make_choice};
 pub use nurses::cheapest_nurse;
-pub use patients::{cheapest_stay, suits};
+pub use patients::cheapest_stay;
 pub use scoring::Scorer;

@@ -3,7 +3,7 @@
 ghost use Rattle.std.specs.Prelude.{◌≡◌, ◌<◌, ℕ, Some, IfSome, IfNone, slice_get};
 ghost use Rattle.ih_tables.specs.Sizes.{patient_count, room_count, theatre_count};
 ghost use Rattle.ih_plan.specs.Writes.{IsWriteOf};
-ghost use Rattle.ih_fill.specs.Candidates.{cheapest, stay_writes, stays_on, suits, valued};
+ghost use Rattle.ih_fill.specs.Candidates.{cheapest, stay_writes, stays_on, valued};
 ghost use Rattle.ih_fill.specs.{ScorerState.stay_value, Theatres.theatre_value, Theatres.IsFirstTheatre};
 
 use crate::candidates::{Candidate, cheaper};
@@ -11,18 +11,7 @@ use crate::scoring::Scorer;
 use ih_moves::window_len;
 use ih_plan::Placement;
 use ih_tables::{Day, Instance, Patient, PatientNo, RoomNo, TheatreNo};
-
-/// Whether the patient may be in the room.
-pub fn suits(patient: &Patient, room: RoomNo) -> bool
-    ensures { result ≡ suits patient.now room.0 }
-{
-    for q in patient.incompatible_room_ids.as_slice() {
-        if q.0 == room.0 {
-            return false;
-        }
-    }
-    true
-}
+use ih_validate::is_incompatible;
 
 // What a stay in the first room from a day on adds to the score, with surgery in a theatre.
 fn theatre_value(scorer: &Scorer<'_>, patient: PatientNo, day: Day, theatre: u32) -> i64
@@ -98,7 +87,8 @@ fn cheapest_on_day(
     let mut best = before;
     for r in 0..inst.rooms() {
         let room = RoomNo(r);
-        if suits(patient, room) {
+        let suits = !is_incompatible(patient, room);
+        if suits {
             let at = Placement { day, room, theatre };
             best = cheaper(best, scorer.stay(patient_no, at));
         }

@@ -1,7 +1,7 @@
 //! A timetable, and what writes would add to its score.
 
 ghost use Rattle.std.specs.Prelude.{◌≡◌, ◌≤◌, ◌^◌};
-ghost use Rattle.ih_tables.specs.Bills.{IsWithin, score};
+ghost use Rattle.ih_tables.specs.Bills.{IsWithin};
 ghost use Rattle.ih_fill.specs.Fill.{without_uncovered};
 
 use crate::candidates::Candidate;
@@ -47,15 +47,6 @@ fn without_uncovered(bill: &Bill) -> Bill
     let mut v = bill.v;
     v[UNCOVERED_ROOM] = 0;
     Bill { v, s: bill.s }
-}
-
-// The score of a bill.
-fn score_of(inst: &Instance, hard: u32, bill: &Bill) -> i64
-    requires hard { hard ≤ 1000000 }
-    requires within { IsWithin (10 ^ 11) bill.now }
-    ensures { result ≡ score hard inst.now.draft.weights bill.now }
-{
-    bill.score(hard, inst.weights())
 }
 
 impl<'a> Scorer<'a> {
@@ -135,9 +126,9 @@ impl<'a> Scorer<'a> {
     {
         let price = self.ledgers.price_write(write);
         if counts_uncovered {
-            score_of(self.inst, self.hard, &price)
+            self.inst.score_of(self.hard, &price)
         } else {
-            score_of(self.inst, self.hard, &without_uncovered(&price))
+            self.inst.score_of(self.hard, &without_uncovered(&price))
         }
     }
 

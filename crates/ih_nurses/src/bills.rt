@@ -6,6 +6,9 @@ ghost use Rattle.ih_nurses.specs.Bills.{nursing_bill};
 
 use ih_plan::increase;
 use ih_tables::Bill;
+use ih_tables::bill_numbers::{
+    CONTINUITY_OF_CARE, EXCESS_WORKLOAD, NURSE_PRESENCE, NURSE_SKILL, UNCOVERED_ROOM,
+};
 
 /// What nursing gives to a bill, or one part of it.
 #[derive(Clone, Copy, Drop)]
@@ -28,29 +31,13 @@ pub fn bill_of(costs: NursingCosts) -> Bill
         (pos costs.nurses_seen) (pos costs.overload) }
     ensures within { IsWithin (10 ^ 11) result }
 {
-    Bill {
-        v: [
-            0,
-            0,
-            0,
-            0,
-            0,
-            0,
-            0,
-            costs.off as i64,
-            costs.uncovered as i64,
-        ],
-        s: [
-            0,
-            costs.missing_skill as i64,
-            costs.nurses_seen as i64,
-            costs.overload as i64,
-            0,
-            0,
-            0,
-            0,
-        ],
-    }
+    let mut bill = Bill::zero();
+    bill.v[NURSE_PRESENCE] = costs.off as i64;
+    bill.v[UNCOVERED_ROOM] = costs.uncovered as i64;
+    bill.s[NURSE_SKILL] = costs.missing_skill as i64;
+    bill.s[CONTINUITY_OF_CARE] = costs.nurses_seen as i64;
+    bill.s[EXCESS_WORKLOAD] = costs.overload as i64;
+    bill
 }
 
 /// The bill of some costs less that of others. Each of its numbers is at most 10^11 in magnitude.
@@ -60,27 +47,11 @@ pub fn difference(after: NursingCosts, before: NursingCosts) -> Bill
         (pos after.nurses_seen -ℤ pos before.nurses_seen) (pos after.overload -ℤ pos before.overload) }
     ensures within { IsWithin (10 ^ 11) result }
 {
-    Bill {
-        v: [
-            0,
-            0,
-            0,
-            0,
-            0,
-            0,
-            0,
-            increase(after.off, before.off),
-            increase(after.uncovered, before.uncovered),
-        ],
-        s: [
-            0,
-            increase(after.missing_skill, before.missing_skill),
-            increase(after.nurses_seen, before.nurses_seen),
-            increase(after.overload, before.overload),
-            0,
-            0,
-            0,
-            0,
-        ],
-    }
+    let mut bill = Bill::zero();
+    bill.v[NURSE_PRESENCE] = increase(after.off, before.off);
+    bill.v[UNCOVERED_ROOM] = increase(after.uncovered, before.uncovered);
+    bill.s[NURSE_SKILL] = increase(after.missing_skill, before.missing_skill);
+    bill.s[CONTINUITY_OF_CARE] = increase(after.nurses_seen, before.nurses_seen);
+    bill.s[EXCESS_WORKLOAD] = increase(after.overload, before.overload);
+    bill
 }

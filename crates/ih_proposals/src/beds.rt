@@ -5,9 +5,9 @@ ghost use Rattle.ih_tables.specs.Sizes.{patient_count};
 ghost use Rattle.ih_plan.specs.{Timetable.IsPlacement, Expand.IsMoveOf, Series.AreMoves};
 ghost use Rattle.ih_proposals.specs.RoomDays.{IsRoomDay};
 
-use crate::attempts::Attempt;
 use crate::room_days::{RoomDay, person_at};
 use crate::situation::Situation;
+use ih_moves::Chain;
 use ih_plan::{Members, Move, Placement, end_of};
 use ih_tables::{Day, Instance, PatientNo, PersonNo};
 use ih_validate::is_incompatible;
@@ -43,7 +43,7 @@ fn beds_beside(
     here: &Situation<'_>,
     patient: PatientNo,
     there: RoomDay,
-    attempt: &Attempt,
+    attempt: &Chain,
     beds: u32,
 ) -> u32
     requires patient { patient.0 < patient_count here.now.inst.now.draft }
@@ -64,7 +64,7 @@ fn beds_beside(
 
 // Whether the room has a bed for the patient on the day once the attempt is made, which moves the patient too or
 // doesn't yet: those who are there have the patient's gender.
-fn has_bed(here: &Situation<'_>, patient: PatientNo, there: RoomDay, attempt: &Attempt) -> bool
+fn has_bed(here: &Situation<'_>, patient: PatientNo, there: RoomDay, attempt: &Chain) -> bool
     requires patient { patient.0 < patient_count here.now.inst.now.draft }
     requires there { IsRoomDay here.now.inst.now.draft there }
     requires moves { AreMoves here.now.inst.now.draft attempt.now }
@@ -85,7 +85,7 @@ fn has_bed(here: &Situation<'_>, patient: PatientNo, there: RoomDay, attempt: &A
 
 /// Whether the placement's room suits the patient and has a bed for the patient on each of its days once the attempt is
 /// made, which doesn't place the patient yet.
-pub fn fits(here: &Situation<'_>, patient: PatientNo, at: Placement, attempt: &Attempt) -> bool
+pub fn fits(here: &Situation<'_>, patient: PatientNo, at: Placement, attempt: &Chain) -> bool
     requires patient { patient.0 < patient_count here.now.inst.now.draft }
     requires placement { IsPlacement here.now.inst.now.draft at }
     requires moves { AreMoves here.now.inst.now.draft attempt.now }

@@ -5,13 +5,12 @@ ghost use Rattle.ih_tables.specs.Sizes.{patient_count};
 ghost use Rattle.ih_plan.specs.{Timetable.IsPlacement, Series.AreMoves};
 ghost use Rattle.ih_proposals.specs.NewStays.{IsNewStay};
 
-use crate::attempts::Attempt;
 use crate::new_stays::{NewStay, marks_but};
 use crate::place::find_place_on;
 use crate::situation::Situation;
 use crate::theatres::surgery_score;
 use crate::words::RandomWords;
-use ih_moves::window_len;
+use ih_moves::{Chain, window_len};
 use ih_plan::Placement;
 use ih_tables::{Day, Instance, PatientNo};
 
@@ -66,7 +65,7 @@ fn place_on(
     words: &mut RandomWords,
     patient: PatientNo,
     day_no: u32,
-    attempt: &Attempt,
+    attempt: &Chain,
 ) -> Option<Placement>
     requires patient { patient.0 < patient_count here.now.inst.now.draft }
     requires moves { AreMoves here.now.inst.now.draft attempt.now }
@@ -82,7 +81,7 @@ pub fn cheapest_place(
     here: &Situation<'_>,
     words: &mut RandomWords,
     patient: PatientNo,
-    attempt: &Attempt,
+    attempt: &Chain,
 ) -> Option<Placement>
     requires patient { patient.0 < patient_count here.now.inst.now.draft }
     requires moves { AreMoves here.now.inst.now.draft attempt.now }

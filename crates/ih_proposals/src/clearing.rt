@@ -6,10 +6,10 @@ ghost use Rattle.ih_plan.specs.{Series.AreMoves};
 ghost use Rattle.ih_proposals.specs.Arrivals.{IsArrival, IsExit};
 
 use crate::arrivals::{Arrival, Exit};
-use crate::attempts::Attempt;
 use crate::leaving::{Leaving, one_to_leave};
 use crate::situation::Situation;
 use crate::words::RandomWords;
+use ih_moves::Chain;
 use ih_plan::{Move, end_of};
 use ih_tables::{Day, Instance, PatientNo, PersonNo, RoomNo};
 use ih_validate::is_incompatible;
@@ -21,7 +21,7 @@ pub const MOST_WITHDRAWN: usize = 2;
 const MOST_LEAVING: usize = 8;
 
 // Withdraws a patient; false where enough are withdrawn. The attempt's first move is that of the one who comes.
-fn withdraw(inst: &Instance, patient: PatientNo, attempt: &mut Attempt) -> bool
+fn withdraw(inst: &Instance, patient: PatientNo, attempt: &mut Chain) -> bool
     requires patient { patient.0 < patient_count inst.now.draft }
     requires moves { AreMoves inst.now.draft attempt.old }
     ensures { AreMoves inst.now.draft attempt.new }
@@ -34,7 +34,7 @@ fn withdraw(inst: &Instance, patient: PatientNo, attempt: &mut Attempt) -> bool
 }
 
 // Brings a patient to a room; false where enough have moved, or the room doesn't suit.
-fn bring(inst: &Instance, patient: PatientNo, room: RoomNo, attempt: &mut Attempt) -> bool
+fn bring(inst: &Instance, patient: PatientNo, room: RoomNo, attempt: &mut Chain) -> bool
     requires patient { patient.0 < patient_count inst.now.draft }
     requires room { room.0 < room_count inst.now.draft }
     requires moves { AreMoves inst.now.draft attempt.old }
@@ -48,7 +48,7 @@ fn bring(inst: &Instance, patient: PatientNo, room: RoomNo, attempt: &mut Attemp
 }
 
 // Lets a person go; false where that is an occupant, or the patient can't.
-fn let_go(inst: &Instance, person: PersonNo, exit: Exit, attempt: &mut Attempt) -> bool
+fn let_go(inst: &Instance, person: PersonNo, exit: Exit, attempt: &mut Chain) -> bool
     requires exit { IsExit inst.now.draft exit }
     requires moves { AreMoves inst.now.draft attempt.old }
     ensures { AreMoves inst.now.draft attempt.new }
@@ -69,7 +69,7 @@ fn clear_on(
     words: &mut RandomWords,
     arrival: Arrival,
     day: Day,
-    attempt: &mut Attempt,
+    attempt: &mut Chain,
 ) -> bool
     requires arrival { IsArrival here.now.inst.now.draft arrival }
     requires day { day.0 < here.now.inst.now.draft.days }
@@ -95,7 +95,7 @@ pub fn clear(
     here: &Situation<'_>,
     words: &mut RandomWords,
     arrival: Arrival,
-    attempt: &mut Attempt,
+    attempt: &mut Chain,
 ) -> bool
     requires arrival { IsArrival here.now.inst.now.draft arrival }
     requires moves { AreMoves here.now.inst.now.draft attempt.old }

@@ -5,13 +5,13 @@ ghost use Rattle.ih_tables.specs.Sizes.{patient_count};
 ghost use Rattle.ih_plan.specs.{Timetable.IsPlacement, Expand.IsMoveOf, Series.AreMoves};
 
 use crate::arrivals::{Arrival, Exit};
-use crate::attempts::Attempt;
 use crate::clearing::{MOST_WITHDRAWN, clear};
 use crate::place::find_place;
 use crate::situation::Situation;
 use crate::stays::{draw_day, draw_patient};
 use crate::theatres::cheapest_theatre;
 use crate::words::RandomWords;
+use ih_moves::Chain;
 use ih_plan::{Move, Placement};
 use ih_tables::{Instance, PatientNo, RoomNo};
 use ih_validate::is_incompatible;
@@ -50,7 +50,7 @@ fn find_twice(
     here: &Situation<'_>,
     words: &mut RandomWords,
     patient: PatientNo,
-    attempt: &Attempt,
+    attempt: &Chain,
 ) -> Option<Placement>
     requires patient { patient.0 < patient_count here.now.inst.now.draft }
     requires moves { AreMoves here.now.inst.now.draft attempt.now }
@@ -63,7 +63,7 @@ fn find_twice(
 }
 
 // Gives each patient who was withdrawn another place. Who has none stays out; false where that is a mandatory patient.
-fn resettle(here: &Situation<'_>, words: &mut RandomWords, attempt: &mut Attempt) -> bool
+fn resettle(here: &Situation<'_>, words: &mut RandomWords, attempt: &mut Chain) -> bool
     requires { AreMoves here.now.inst.now.draft attempt.old }
     ensures { AreMoves here.now.inst.now.draft attempt.new }
 {
@@ -88,7 +88,7 @@ fn resettle(here: &Situation<'_>, words: &mut RandomWords, attempt: &mut Attempt
 /// Up to five moves: a patient gets a room and a day by random words, and at most two who have to leave get the first
 /// place that fits on one of two days, or stay out. None where an occupant, too many or a mandatory patient would have
 /// to leave for good.
-pub fn ejection(here: &Situation<'_>, words: &mut RandomWords, attempt: &mut Attempt)
+pub fn ejection(here: &Situation<'_>, words: &mut RandomWords, attempt: &mut Chain)
     requires { AreMoves here.now.inst.now.draft attempt.old }
     ensures { AreMoves here.now.inst.now.draft attempt.new }
 {

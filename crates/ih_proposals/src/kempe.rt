@@ -6,11 +6,11 @@ ghost use Rattle.ih_tables.specs.Sizes.{patient_count, room_count};
 ghost use Rattle.ih_plan.specs.{Expand.IsMoveOf, Series.AreMoves};
 
 use crate::arrivals::{Arrival, Exit};
-use crate::attempts::Attempt;
 use crate::clearing::clear;
 use crate::situation::Situation;
 use crate::stays::draw_patient;
 use crate::words::RandomWords;
+use ih_moves::Chain;
 use ih_plan::{Move, Placement};
 use ih_tables::{Instance, PatientNo, RoomNo};
 use ih_validate::is_incompatible;
@@ -25,7 +25,7 @@ fn make_way(
     words: &mut RandomWords,
     patient: PatientNo,
     room: RoomNo,
-    attempt: &mut Attempt,
+    attempt: &mut Chain,
 ) -> bool
     requires patient { patient.0 < patient_count here.now.inst.now.draft }
     requires room { room.0 < room_count here.now.inst.now.draft }
@@ -56,7 +56,7 @@ fn room_change(inst: &Instance, mv: Move) -> Option<(PatientNo, RoomNo)>
 
 // Makes way for each patient whom the attempt brings to another room, also for those who are brought for that; false
 // where somebody can't leave.
-fn make_way_for_all(here: &Situation<'_>, words: &mut RandomWords, attempt: &mut Attempt) -> bool
+fn make_way_for_all(here: &Situation<'_>, words: &mut RandomWords, attempt: &mut Chain) -> bool
     requires { AreMoves here.now.inst.now.draft attempt.old }
     ensures { AreMoves here.now.inst.now.draft attempt.new }
 {
@@ -75,7 +75,7 @@ fn make_way_for_all(here: &Situation<'_>, words: &mut RandomWords, attempt: &mut
 
 /// Up to eight moves: a patient goes to another room, both by random words, and two rooms exchange all whom this
 /// disturbs and who are disturbed by that in turn. None where that comes to no end.
-pub fn kempe(here: &Situation<'_>, words: &mut RandomWords, attempt: &mut Attempt)
+pub fn kempe(here: &Situation<'_>, words: &mut RandomWords, attempt: &mut Chain)
     requires { AreMoves here.now.inst.now.draft attempt.old }
     ensures { AreMoves here.now.inst.now.draft attempt.new }
 {

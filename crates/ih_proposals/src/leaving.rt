@@ -4,10 +4,10 @@ ghost use Rattle.std.specs.Prelude.{◌<◌};
 ghost use Rattle.ih_proposals.specs.{Arrivals.IsArrival, RoomDays.IsRoomDay};
 
 use crate::arrivals::{Arrival, Exit};
-use crate::attempts::Attempt;
 use crate::room_days::{RoomDay, person_at};
 use crate::situation::Situation;
 use crate::words::RandomWords;
+use ih_moves::Chain;
 use ih_plan::Members;
 use ih_tables::{Day, PersonNo};
 
@@ -22,7 +22,7 @@ pub enum Leaving {
 }
 
 // How many persons of the room on the day the attempt moves.
-fn count_moved(here: &Situation<'_>, there: RoomDay, attempt: &Attempt) -> u32
+fn count_moved(here: &Situation<'_>, there: RoomDay, attempt: &Chain) -> u32
     requires { IsRoomDay here.now.inst.now.draft there }
 {
     let rooms = here.room_days();
@@ -37,7 +37,7 @@ fn count_moved(here: &Situation<'_>, there: RoomDay, attempt: &Attempt) -> u32
 
 // How many come to the patient's room on the day: the patient alone or, where two rooms exchange persons, all of the
 // other room whom the attempt moves.
-fn count_coming(here: &Situation<'_>, arrival: Arrival, day: Day, attempt: &Attempt) -> u32
+fn count_coming(here: &Situation<'_>, arrival: Arrival, day: Day, attempt: &Chain) -> u32
     requires arrival { IsArrival here.now.inst.now.draft arrival }
     requires day { day.0 < here.now.inst.now.draft.days }
 {
@@ -54,7 +54,7 @@ pub fn one_to_leave(
     words: &mut RandomWords,
     arrival: Arrival,
     day: Day,
-    attempt: &Attempt,
+    attempt: &Chain,
 ) -> Leaving
     requires arrival { IsArrival here.now.inst.now.draft arrival }
     requires day { day.0 < here.now.inst.now.draft.days }

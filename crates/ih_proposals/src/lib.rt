@@ -2,7 +2,6 @@
 #![tactic(auto)]
 
 mod arrivals;
-mod attempts;
 mod beds;
 mod best_place;
 mod cheapest_nurse;
@@ -28,6 +27,5 @@ mod swap;
 mod theatres;
 mod words;
 
-pub use attempts::Attempt;
 pub use proposing::{propose, repair};
 pub use words::RandomWords;

@@ -5,13 +5,13 @@ ghost use Rattle.ih_tables.specs.Sizes.{nurse_count, shift_count};
 ghost use Rattle.ih_plan.specs.{Expand.IsMoveOf, Series.AreMoves};
 ghost use Rattle.ih_proposals.specs.NewStays.{IsNewStay};
 
-use crate::attempts::Attempt;
 use crate::cheapest_nurse::value_of;
 use crate::new_stays::{NewStay, cost_of_nurse, marks_but, new_stay};
 use crate::nurses::{count_working, working_at};
 use crate::situation::Situation;
 use crate::stays::cyclic;
 use crate::words::RandomWords;
+use ih_moves::Chain;
 use ih_plan::{Move, end_of};
 use ih_tables::{Cell, NurseNo, Shift};
 
@@ -85,7 +85,7 @@ fn repair_shift(
 }
 
 // The same for each shift of the stay.
-fn repair_stay(here: &Situation<'_>, words: &mut RandomWords, stay: NewStay, attempt: &mut Attempt)
+fn repair_stay(here: &Situation<'_>, words: &mut RandomWords, stay: NewStay, attempt: &mut Chain)
     requires stay { IsNewStay here.now.inst.now.draft stay }
     requires moves { AreMoves here.now.inst.now.draft attempt.old }
     ensures { AreMoves here.now.inst.now.draft attempt.new }
@@ -101,7 +101,7 @@ fn repair_stay(here: &Situation<'_>, words: &mut RandomWords, stay: NewStay, att
 
 /// Adds to an attempt nurses who are cheaper in the shifts of its patients' new stays, as long as it has fewer than
 /// eight moves. They are chosen by the timetable before the attempt is made.
-pub fn repair_nurses(here: &Situation<'_>, words: &mut RandomWords, attempt: &mut Attempt)
+pub fn repair_nurses(here: &Situation<'_>, words: &mut RandomWords, attempt: &mut Chain)
     requires { AreMoves here.now.inst.now.draft attempt.old }
     ensures { AreMoves here.now.inst.now.draft attempt.new }
 {

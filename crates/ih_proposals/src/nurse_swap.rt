@@ -5,10 +5,10 @@ ghost use Rattle.ih_tables.specs.Sizes.{nurse_count, room_count, shift_count};
 ghost use Rattle.ih_plan.specs.{Expand.IsMoveOf, Series.AreMoves};
 ghost use Rattle.ih_proposals.specs.Pairs.{IsPair};
 
-use crate::attempts::Attempt;
 use crate::moments::draw_moment;
 use crate::situation::Situation;
 use crate::words::RandomWords;
+use ih_moves::Chain;
 use ih_plan::Move;
 use ih_tables::{NurseNo, RoomNo, Shift};
 
@@ -62,7 +62,7 @@ fn exchange_at(here: &Situation<'_>, pair: Pair, shift: Shift) -> Option<Move>
 
 /// Up to eight moves: over a person's stay, by random words, the nurse of another room takes the place of the room's
 /// own nurse, and where both are there in one shift they exchange their rooms.
-pub fn nurse_swap(here: &Situation<'_>, words: &mut RandomWords, attempt: &mut Attempt)
+pub fn nurse_swap(here: &Situation<'_>, words: &mut RandomWords, attempt: &mut Chain)
     requires { AreMoves here.now.inst.now.draft attempt.old }
     ensures { AreMoves here.now.inst.now.draft attempt.new }
 {

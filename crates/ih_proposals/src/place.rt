@@ -4,11 +4,11 @@ ghost use Rattle.std.specs.Prelude.{◌<◌, IfSome};
 ghost use Rattle.ih_tables.specs.Sizes.{patient_count};
 ghost use Rattle.ih_plan.specs.{Timetable.IsPlacement, Expand.IsMoveOf, Series.AreMoves};
 
-use crate::attempts::Attempt;
 use crate::situation::Situation;
 use crate::stays::{draw_day, draw_patient, first_fit};
 use crate::theatres::cheapest_theatre;
 use crate::words::RandomWords;
+use ih_moves::Chain;
 use ih_plan::{Move, Placement};
 use ih_tables::{Day, PatientNo};
 
@@ -19,7 +19,7 @@ pub fn find_place_on(
     words: &mut RandomWords,
     patient: PatientNo,
     day: Day,
-    attempt: &Attempt,
+    attempt: &Chain,
 ) -> Option<Placement>
     requires patient { patient.0 < patient_count here.now.inst.now.draft }
     requires day { day.0 < here.now.inst.now.draft.days }
@@ -41,7 +41,7 @@ pub fn find_place(
     here: &Situation<'_>,
     words: &mut RandomWords,
     patient: PatientNo,
-    attempt: &Attempt,
+    attempt: &Chain,
 ) -> Option<Placement>
     requires patient { patient.0 < patient_count here.now.inst.now.draft }
     requires moves { AreMoves here.now.inst.now.draft attempt.now }
@@ -52,7 +52,7 @@ pub fn find_place(
 }
 
 /// A move: a patient, by a random word, to another placement, beside those who are there once the attempt is made.
-pub fn place(here: &Situation<'_>, words: &mut RandomWords, attempt: &Attempt) -> Option<Move>
+pub fn place(here: &Situation<'_>, words: &mut RandomWords, attempt: &Chain) -> Option<Move>
     requires { AreMoves here.now.inst.now.draft attempt.now }
     ensures { IfSome result (IsMoveOf here.now.inst.now.draft) }
 {

@@ -3,7 +3,6 @@
 ghost use Rattle.std.specs.Prelude.{◌≡◌, ◌≤◌, length};
 ghost use Rattle.ih_plan.specs.{Series.AreMoves};
 
-use crate::attempts::Attempt;
 use crate::cheapest_nurse::cheapest_nurse;
 use crate::ejection::ejection;
 use crate::kempe::kempe;
@@ -18,10 +17,11 @@ use crate::situation::Situation;
 use crate::swap::swap;
 use crate::words::RandomWords;
 use ih_costs::Ledgers;
+use ih_moves::Chain;
 use ih_tables::Instance;
 
 // An attempt of a kind.
-fn propose_kind(here: &Situation<'_>, kind: Kind, words: &mut RandomWords, attempt: &mut Attempt)
+fn propose_kind(here: &Situation<'_>, kind: Kind, words: &mut RandomWords, attempt: &mut Chain)
     requires { AreMoves here.now.inst.now.draft attempt.old }
     ensures { AreMoves here.now.inst.now.draft attempt.new }
 {
@@ -51,7 +51,7 @@ pub fn propose(
     hard: u32,
     ledgers: &Ledgers<'_>,
     words: &mut RandomWords,
-    attempt: &mut Attempt,
+    attempt: &mut Chain,
 )
     requires instance { ledgers.now.instance ≡ inst.now.draft }
     requires hard { hard ≤ 1000000 }
@@ -77,7 +77,7 @@ pub fn repair(
     hard: u32,
     ledgers: &Ledgers<'_>,
     words: &mut RandomWords,
-    attempt: &mut Attempt,
+    attempt: &mut Chain,
 ) -> bool
     requires instance { ledgers.now.instance ≡ inst.now.draft }
     requires hard { hard ≤ 1000000 }

@@ -4,14 +4,13 @@ ghost use Rattle.std.specs.Prelude.{◌<◌, IfSome};
 ghost use Rattle.ih_tables.specs.Sizes.{patient_count, room_count};
 ghost use Rattle.ih_plan.specs.{Series.AreMoves};
 
-use crate::attempts::Attempt;
 use crate::best_place::cheapest_place;
 use crate::ejection::withdrawn;
 use crate::room_days::{RoomDay, person_at};
 use crate::situation::Situation;
 use crate::stays::{cyclic, draw_patient};
 use crate::words::RandomWords;
-use ih_moves::window_len;
+use ih_moves::{Chain, window_len};
 use ih_plan::{Members, Move};
 use ih_tables::{Day, PatientNo, PersonNo, RoomNo};
 
@@ -41,7 +40,7 @@ fn admitted_on(here: &Situation<'_>, person: PersonNo, day: Day) -> Option<Patie
 }
 
 // Withdraws patients of a room who are admitted on a day, as long as there aren't enough.
-fn withdraw_on(here: &Situation<'_>, room: RoomNo, day: Day, attempt: &mut Attempt)
+fn withdraw_on(here: &Situation<'_>, room: RoomNo, day: Day, attempt: &mut Chain)
     requires room { room.0 < room_count here.now.inst.now.draft }
     requires day { day.0 < here.now.inst.now.draft.days }
     requires moves { AreMoves here.now.inst.now.draft attempt.old }
@@ -60,7 +59,7 @@ fn withdraw_on(here: &Situation<'_>, room: RoomNo, day: Day, attempt: &mut Attem
 }
 
 // The same for a few days in a row.
-fn withdraw_from(here: &Situation<'_>, room: RoomNo, from: Day, attempt: &mut Attempt)
+fn withdraw_from(here: &Situation<'_>, room: RoomNo, from: Day, attempt: &mut Chain)
     requires room { room.0 < room_count here.now.inst.now.draft }
     requires moves { AreMoves here.now.inst.now.draft attempt.old }
     ensures { AreMoves here.now.inst.now.draft attempt.new }
@@ -102,7 +101,7 @@ fn settle(
     here: &Situation<'_>,
     words: &mut RandomWords,
     patient: PatientNo,
-    attempt: &mut Attempt,
+    attempt: &mut Chain,
 ) -> bool
     requires patient { patient.0 < patient_count here.now.inst.now.draft }
     requires moves { AreMoves here.now.inst.now.draft attempt.old }
@@ -118,7 +117,7 @@ fn settle(
 }
 
 // The same for one who is out and may join, where there is one.
-fn join(here: &Situation<'_>, words: &mut RandomWords, from: Day, attempt: &mut Attempt)
+fn join(here: &Situation<'_>, words: &mut RandomWords, from: Day, attempt: &mut Chain)
     requires { AreMoves here.now.inst.now.draft attempt.old }
     ensures { AreMoves here.now.inst.now.draft attempt.new }
 {
@@ -132,7 +131,7 @@ fn resettle_at(
     here: &Situation<'_>,
     words: &mut RandomWords,
     index: usize,
-    attempt: &mut Attempt,
+    attempt: &mut Chain,
 ) -> bool
     requires { AreMoves here.now.inst.now.draft attempt.old }
     ensures { AreMoves here.now.inst.now.draft attempt.new }
@@ -147,12 +146,7 @@ fn resettle_at(
 }
 
 // The same for all of so many who are withdrawn, cyclically from a random one on.
-fn resettle(
-    here: &Situation<'_>,
-    words: &mut RandomWords,
-    count: u32,
-    attempt: &mut Attempt,
-) -> bool
+fn resettle(here: &Situation<'_>, words: &mut RandomWords, count: u32, attempt: &mut Chain) -> bool
     requires count { 0 < count }
     requires moves { AreMoves here.now.inst.now.draft attempt.old }
     ensures { AreMoves here.now.inst.now.draft attempt.new }
@@ -169,7 +163,7 @@ fn resettle(
 /// Up to seven moves: two or three patients who are admitted to one room on four days in a row, both by random words, are
 /// withdrawn; each gets the cheapest of a few places, or stays out. Once in four times one who is out comes first. None
 /// where a mandatory patient would stay out.
-pub fn regroup(here: &Situation<'_>, words: &mut RandomWords, attempt: &mut Attempt)
+pub fn regroup(here: &Situation<'_>, words: &mut RandomWords, attempt: &mut Chain)
     requires { AreMoves here.now.inst.now.draft attempt.old }
     ensures { AreMoves here.now.inst.now.draft attempt.new }
 {

@@ -69,6 +69,6 @@ impl<'a> Situation<'a> {
         ensures low { neg_ℤ (pos (10 ^ 18)) <ℤ result }
         ensures high { result <ℤ pos (10 ^ 18) }
     {
-        bill.score(self.hard, self.inst.weights())
+        self.inst.score_of(self.hard, bill)
     }
 }

@@ -4,11 +4,10 @@ ghost use Rattle.std.specs.Prelude.{◌<◌, IfSome};
 ghost use Rattle.ih_tables.specs.Sizes.{patient_count, room_count, theatre_count};
 ghost use Rattle.ih_plan.specs.{Series.AreMoves};
 
-use crate::attempts::Attempt;
 use crate::beds::fits;
 use crate::situation::Situation;
 use crate::words::RandomWords;
-use ih_moves::window_len;
+use ih_moves::{Chain, window_len};
 use ih_plan::Placement;
 use ih_tables::{Day, Instance, PatientNo, RoomNo, TheatreNo};
 
@@ -72,7 +71,7 @@ pub fn first_fit(
     patient: PatientNo,
     day: Day,
     first: u32,
-    attempt: &Attempt,
+    attempt: &Chain,
 ) -> Option<RoomNo>
     requires patient { patient.0 < patient_count here.now.inst.now.draft }
     requires day { day.0 < here.now.inst.now.draft.days }

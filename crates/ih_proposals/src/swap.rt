@@ -4,10 +4,10 @@ ghost use Rattle.std.specs.Prelude.{◌<◌, IfSome};
 ghost use Rattle.ih_tables.specs.Sizes.{patient_count};
 ghost use Rattle.ih_plan.specs.{Timetable.IsPlacement, Expand.IsMoveOf, Series.AreMoves};
 
-use crate::attempts::Attempt;
 use crate::situation::Situation;
 use crate::stays::{cyclic, draw_patient};
 use crate::words::RandomWords;
+use ih_moves::Chain;
 use ih_plan::{Move, Placement};
 use ih_tables::{Instance, PatientNo, PersonNo};
 use ih_validate::{is_incompatible, outside_window};
@@ -95,7 +95,7 @@ fn move_away(_inst: &Instance, patient: PatientNo, to: Option<Placement>) -> Mov
 
 /// Two moves, for a patient by a random word and the first other patient, cyclically from a random one on, whose place
 /// the patient may take: both exchange their placements, or the other is left out where the patient isn't admitted.
-pub fn swap(here: &Situation<'_>, words: &mut RandomWords, attempt: &mut Attempt)
+pub fn swap(here: &Situation<'_>, words: &mut RandomWords, attempt: &mut Chain)
     requires { AreMoves here.now.inst.now.draft attempt.old }
     ensures { AreMoves here.now.inst.now.draft attempt.new }
 {

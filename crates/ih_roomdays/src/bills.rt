@@ -7,6 +7,7 @@ ghost use Rattle.ih_roomdays.specs.Parts.{room_day_part};
 
 use ih_plan::{bit, increase};
 use ih_tables::Bill;
+use ih_tables::bill_numbers::{MIXED_AGE, MIXED_GENDER, ROOM_CAPACITY};
 
 /// What a room breaks and costs on a day.
 #[derive(Clone, Copy)]
@@ -24,20 +25,11 @@ pub fn room_day_bill(counts: RoomDayCounts) -> Bill
     ensures value { result ≡ as_bill (room_day_part counts) }
     ensures within { IsWithin (10 ^ 11) result }
 {
-    Bill {
-        v: [
-            bit(counts.mixed) as i64,
-            0,
-            0,
-            0,
-            0,
-            0,
-            counts.over as i64,
-            0,
-            0,
-        ],
-        s: [counts.spread as i64, 0, 0, 0, 0, 0, 0, 0],
-    }
+    let mut bill = Bill::zero();
+    bill.v[MIXED_GENDER] = bit(counts.mixed) as i64;
+    bill.v[ROOM_CAPACITY] = counts.over as i64;
+    bill.s[MIXED_AGE] = counts.spread as i64;
+    bill
 }
 
 /// The bill of the new numbers less that of the old ones.
@@ -46,8 +38,9 @@ pub fn room_day_change(new: RoomDayCounts, old: RoomDayCounts) -> Bill
     ensures within { IsWithin (10 ^ 11) result }
 {
     let mixed = increase(bit(new.mixed), bit(old.mixed));
-    Bill {
-        v: [mixed, 0, 0, 0, 0, 0, increase(new.over, old.over), 0, 0],
-        s: [increase(new.spread, old.spread), 0, 0, 0, 0, 0, 0, 0],
-    }
+    let mut bill = Bill::zero();
+    bill.v[MIXED_GENDER] = mixed;
+    bill.v[ROOM_CAPACITY] = increase(new.over, old.over);
+    bill.s[MIXED_AGE] = increase(new.spread, old.spread);
+    bill
 }

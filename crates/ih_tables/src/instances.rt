@@ -5,7 +5,7 @@ ghost use Rattle.ih_tables.specs.{declared.drafts.Room.Room, declared.drafts.Nur
 ghost use Rattle.ih_tables.specs.{declared.drafts.Patient.Patient, declared.drafts.Theatre.Theatre, Lookups.IsIndexOf};
 ghost use Rattle.ih_tables.specs.{Valid.IsValid, Works.load_table, Works.roster_table};
 
-use crate::bills::Weights;
+use crate::bills::{Bill, Weights};
 use crate::drafts::{Draft, Nurse, Occupant, Patient, Room, Surgeon, Theatre};
 use crate::ids::{NurseNo, PatientNo, RoomNo, Shift, SurgeonNo, TheatreNo};
 use crate::lists::List;
@@ -62,7 +62,8 @@ pub struct Instance {
 }
 
 impl Instance {
-    ghost use Rattle.std.specs.Prelude.{◌≡◌, ◌<◌, ◌*◌, ◌+◌, Some, IfOk, slice_get, option_map, map};
+    ghost use Rattle.std.specs.Prelude.{◌≡◌, ◌<◌, ◌≤◌, ◌*◌, ◌+◌, ◌^◌, ◌<ℤ◌, neg_ℤ, pos, Some, IfOk, slice_get, option_map, map};
+    ghost use Rattle.ih_tables.specs.Bills.{IsWithin, score};
     ghost use Rattle.ih_tables.specs.Sizes.{patient_count, occupant_count, room_count, nurse_count, surgeon_count};
     ghost use Rattle.ih_tables.specs.Sizes.{theatre_count, person_count, shift_count};
     ghost use Rattle.ih_tables.specs.{Works.max_load, Works.working, Lookups.number_in, declared.drafts.Room.Room};
@@ -172,6 +173,18 @@ impl Instance {
         ensures { result.now ≡ self.now.draft.weights }
     {
         &self.draft.weights
+    }
+
+    /// The score of a bill, or of the change of one: the weighed costs, and `hard` for each unit of a broken rule.
+    #[inline(always)]
+    pub fn score_of(&self, hard: u32, bill: &Bill) -> i64
+        requires hard { hard ≤ 1000000 }
+        requires within { IsWithin (10 ^ 11) bill.now }
+        ensures score { result ≡ score hard self.now.draft.weights bill.now }
+        ensures low { neg_ℤ (pos (10 ^ 18)) <ℤ result }
+        ensures high { result <ℤ pos (10 ^ 18) }
+    {
+        bill.score(hard, self.weights())
     }
 
     /// A patient's data.

@@ -1,4 +1,4 @@
-use Rattle.std.proofs.Common.{◌≡◌, ◌<◌, ◌∙◌, sym, ap, subst, arith, ℕ, List, [], ◌∷◌, Some, true, false}
+use Rattle.std.proofs.Common.{not, ◌≡◌, ◌<◌, ◌∙◌, sym, ap, subst, arith, ℕ, List, [], ◌∷◌, Some, true, false}
 use Rattle.std.specs.Prelude.{flat_map}
 use Rattle.ih_tables.specs.Sizes.{room_count, theatre_count}
 use Rattle.ih_plan.specs.declared.moves.Write.{Write}
@@ -31,7 +31,7 @@ loop-r-preserved c =
     let before = c.args.before.write in
     elim c.if-suits.branch [
       | then-suits w ↦
-          let yes : suits a r ≡ true = sym c.suits.ensures ∙ w.if-suits.true in
+          let yes : suits a r ≡ true = ap not (sym c.is_incompatible-suits.ensures ∙ w.if-suits.true) in
           let at : ℕ → Write = λ t. SetStay c.args.patient_no (Some (record { day = c.args.day; room = record { 0 = r }; theatre = record { 0 = t } })) in
           let t = c.in-Some.theatre.0 in
           let second : w.stay.result ≡ valued (stay_value F) (at t) = w.stay.ensures in
@@ -52,7 +52,7 @@ loop-r-preserved c =
                 (cheaper-either (IsWriteOf I) c.loop-r.best w.stay.result c.loop-r.invariant.fits (subst (λ (b : Candidate). IsWriteOf I b.write) (sym second) fits));
           }
       | else-suits w ↦
-          let no : suits a r ≡ false = sym c.suits.ensures ∙ w.if-suits.false in
+          let no : suits a r ≡ false = ap not (sym c.is_incompatible-suits.ensures ∙ w.if-suits.false) in
           record {
             least = w.best-is ∙ (c.loop-r.invariant.least ∙ ap (λ ws. valued (stay_value F) (cheapest (stay_value F) before ws)) (sym (on-same f a r no)));
             fits = subst (λ (b : Candidate). IsWriteOf I b.write) (sym w.best-is) c.loop-r.invariant.fits;

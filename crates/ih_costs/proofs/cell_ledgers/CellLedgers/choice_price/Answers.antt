@@ -36,8 +36,8 @@ returns c =
     let f = c.if-eq.false in
     let apart : c.args.new ≡ c.care-old.result → ⊥ = search (rules, h) in
     let stands = c.requires.stands.nurses in
-    choice-priced I P c.args.room c.args.shift c.args.new c.choice_delta-delta.result.off c.choice_delta-delta.result.uncovered c.choice_delta-delta.result.missing_skill
+    rw c.zero-bill.ensures (choice-priced I P c.args.room c.args.shift c.args.new c.choice_delta-delta.result.off c.choice_delta-delta.result.uncovered c.choice_delta-delta.result.missing_skill
     c.choice_delta-delta.result.nurses_seen c.choice_delta-delta.result.overload c.args.inst.now.valid
     (plan-fits I P c.args.self.now c.requires.stands) c.requires.write (other-number (choice_of P c.args.room.0 c.args.shift.0) c.args.new (λ e. apart (e ∙ sym old)))
     (c.choice_delta-delta.ensures.off P stands) (c.choice_delta-delta.ensures.uncovered P stands) (c.choice_delta-delta.ensures.missing_skill P stands)
-    (c.choice_delta-delta.ensures.nurses_seen P stands) (c.choice_delta-delta.ensures.overload P stands)
+    (c.choice_delta-delta.ensures.nurses_seen P stands) (c.choice_delta-delta.ensures.overload P stands))

@@ -19,6 +19,6 @@ returns c =
     let P = timetable_of c.args.self.now in
     let stands = c.requires.stands in
     let own : surgeon_of I c.args.trial.now.patient.0 ≡ Some c.patient.result.now.surgeon_id.0 = ap (option_map (λ (a : Patient). a.surgeon_id.0)) c.patient.ensures in
-    surgery-passed I P c.args.trial.now.patient c.args.trial.now.at c.patient.result.now.surgeon_id.0 c.theatre_delta-of_theatre.result c.surgeon_delta-of_surgeon.result own
+    rw c.zero-bill.ensures (surgery-passed I P c.args.trial.now.patient c.args.trial.now.at c.patient.result.now.surgeon_id.0 c.theatre_delta-of_theatre.result c.surgeon_delta-of_surgeon.result own
     (c.theatre_delta-of_theatre.ensures.delta P stands.theatres c.requires.stay) c.theatre_delta-of_theatre.ensures.within
-    (c.surgeon_delta-of_surgeon.ensures.delta P stands.theatres c.requires.stay) c.surgeon_delta-of_surgeon.ensures.within
+    (c.surgeon_delta-of_surgeon.ensures.delta P stands.theatres c.requires.stay) c.surgeon_delta-of_surgeon.ensures.within)

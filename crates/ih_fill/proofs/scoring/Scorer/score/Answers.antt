@@ -11,7 +11,7 @@ returns-then-counts_uncovered c =
     let here = c.self.inside in
     let fits : FitsSigned w64 c.score_of.result = search rules in
     rw (c.if-counts_uncovered.true, to_z-of_z w64 c.score_of.result fits)
-    (c.score_of.ensures
+    (c.score_of.ensures.score
     ∙ score-is c.args.self.now here.inst.now.draft here.ledgers here.hard here.counts_uncovered true c.args.write.now
     c.price_write-price.result c.self.view_is c.self.invariant.of_instance c.price_write-price.ensures.price)
 
@@ -20,6 +20,6 @@ returns-else-counts_uncovered c =
     let here = c.self.inside in
     let fits : FitsSigned w64 c.score_of-else-counts_uncovered.result = search rules in
     rw (c.if-counts_uncovered.false, to_z-of_z w64 c.score_of-else-counts_uncovered.result fits)
-    (c.score_of-else-counts_uncovered.ensures ∙ ap (score here.hard here.inst.now.draft.weights) c.without_uncovered.ensures.value
+    (c.score_of-else-counts_uncovered.ensures.score ∙ ap (score here.hard here.inst.now.draft.weights) c.without_uncovered.ensures.value
     ∙ score-is c.args.self.now here.inst.now.draft here.ledgers here.hard here.counts_uncovered false c.args.write.now
     c.price_write-price.result c.self.view_is c.self.invariant.of_instance c.price_write-price.ensures.price)

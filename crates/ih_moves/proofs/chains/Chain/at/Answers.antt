@@ -1,7 +1,7 @@
 use Rattle.std.proofs.Common.{subst, sym}
 use Rattle.ih_plan.specs.Series.{AreMoves}
-use Rattle.ih_proposals.proofs.Moves.{move-at}
-use Rattle.ih_proposals.proofs.attempts.Attempt.at.Goals as goal
+use Rattle.ih_moves.proofs.InARow.{move-at}
+use Rattle.ih_moves.proofs.chains.Chain.at.Goals as goal
 
 pub returns : goal.returns
 returns c =

@@ -1,36 +1,42 @@
-//! What is tried at once: at most eight moves, which are priced as one and made in a row.
+//! Moves in a row, which are priced as one.
 
 use ih_plan::Move;
 use ih_tables::{Instance, PersonNo};
 use std::marker::Model;
 
-/// At most eight moves, in the order in which they are made. It takes no memory.
-#[derive(Drop)]
-pub struct Attempt {
+/// Up to 8 moves in a row. It takes no memory.
+#[derive(Clone, Copy)]
+pub struct Chain {
+    // Past the length they are idle.
     moves: [Move; 8],
-    len: usize,
+    len: u32,
 }
 
-impl Model for Attempt {
-    ghost use Rattle.std.specs.Prelude.{List, take, ◌≤◌};
+impl Model for Chain {
+    ghost use Rattle.std.specs.Prelude.{List};
     ghost use Rattle.ih_plan.specs.declared.moves.Move.{Move};
+    ghost use Rattle.ih_moves.specs.Chains.{moves_in, padded, IsPadded, padded-moves_in};
 
     ghost Value = { List Move };
 
-    ghost view = { λ a. take a.len a.moves };
+    ghost view = { moves_in };
 
-    ghost invariant = { λ a. a.len ≤ 8 };
+    ghost invariant = { IsPadded };
+
+    ghost inverse = { padded };
+
+    ghost inverse_ok = { padded-moves_in };
 }
 
-impl Attempt {
+impl Chain {
     ghost use Rattle.std.specs.Prelude.{◌≡◌, ◌==◌, ◌<◌, ◌≤◌, ◌++◌, ◌∷◌, [], length, IfSome};
     ghost use Rattle.ih_plan.specs.{Expand.IsMoveOf, Series.AreMoves};
 
-    /// No moves yet.
-    pub fn new() -> Attempt
+    /// No move.
+    pub fn new() -> Chain
         ensures { result ≡ [] }
     {
-        Attempt {
+        Chain {
             moves: [Move::Idle; 8],
             len: 0,
         }
@@ -41,7 +47,7 @@ impl Attempt {
         ensures moves { result.now ≡ self.now }
         ensures few { length self.now ≤ 8 }
     {
-        &self.moves[..self.len]
+        &self.moves[..self.len as usize]
     }
 
     /// How many moves it has.
@@ -63,15 +69,15 @@ impl Attempt {
     pub fn clear(&mut self)
         ensures { self.new ≡ [] }
     {
-        self.len = 0;
+        *self = Chain::new();
     }
 
-    /// One move more, behind the others.
+    /// Puts a move behind the others.
     pub fn push(&mut self, mv: Move)
         requires { length self.old < 8 }
         ensures { self.new ≡ self.old ++ mv ∷ [] }
     {
-        self.moves[self.len] = mv;
+        self.moves[self.len as usize] = mv;
         self.len += 1;
     }
 
