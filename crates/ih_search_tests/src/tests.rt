@@ -1,13 +1,13 @@
-//! The tests, by what they are of, and the steps that several share.
+//! The tests, by what they are of, and what reads their texts.
 
-mod cellbook;
 mod chains;
 mod desk;
-mod freezing;
 mod histories;
 mod replay;
 mod rounds;
+mod scenes;
 mod snapshot;
 mod steps;
 mod turn;
+mod words;
 mod workers;

@@ -1,10 +1,11 @@
 -- An offer read off a replica is that after the history that the replica stands for.
-use Rattle.std.proofs.Common.{◌≡◌, ℕ, ◌<◌, ◌⊎◌, arith, refl, sym, ap, ◌∙◌, subst, Bool, true, false, List, [], take, inl, inr, Some}
+use Rattle.std.proofs.Common.{◌≡◌, ℕ, ◌^◌, ◌<◌, ◌⊎◌, arith, refl, sym, ap, ◌∙◌, subst, Bool, true, false, List, [], take, inl, inr, Some}
 use Rattle.std.specs.Prelude.{slice_index, if◌then◌else◌}
 use Rattle.std.specs.List.{list_any}
 use Rattle.std.proofs.lemmas.List.{take_all}
 use Rattle.std.proofs.lemmas.Option.{slice_get_within}
 use Rattle.ih_tables.specs.declared.bills.Bill.{Bill}
+use Rattle.ih_tables.specs.Bills.{IsWithin}
 use Rattle.ih_plan.specs.declared.moves.Move.{Move}
 use Rattle.ih_plan.specs.Timetable.{Timetable}
 use Rattle.ih_plan.specs.Sums.{tagged}
@@ -22,7 +23,7 @@ use Rattle.ih_cellbook.specs.Offered.{Offered}
 use Rattle.ih_cellbook.specs.Offers.{IsRightOffer, next_number, reads_after}
 use Rattle.ih_cellbook.proofs.Committing.{footprint-below}
 use Rattle.ih_snapshot.specs.Noting.{asks_reads, offer_of, offer_with, priced_of, reads_of}
-use Rattle.ih_cellbook.specs.Replicas.{IsReplicaOf, IsOfferAfter, IsPricedAfter}
+use Rattle.ih_cellbook.specs.Replicas.{IsReplicaOf, IsOfferAfter, IsOfferOf, IsOfferWith, IsPricedAfter, IsPricedOf, IsRightFor, StandsAs}
 use Rattle.ih_cellbook.specs.ReplicaState.{ReplicaState}
 
 module _ (b : Base) (H : List Tried) (r : ReplicaState) (n : ℕ) (m : List Move) (stands : IsReplicaOf b H r) where
@@ -50,27 +51,23 @@ module _ (b : Base) (H : List Tried) (r : ReplicaState) (n : ℕ) (m : List Move
       ≡ (if is_compared b.instance b.options (is_frozen r.base r.plan m) n (price_of_all r.base.instance r.plan m) then reads_after b H m else [])
   offered-reads = asked-is (is_frozen r.base r.plan m) (price_of_all r.base.instance r.plan m)
 
-  pub offer-after : IsOfferAfter b H r.worker n m (offer_of r n m)
-  offer-after = record {
+  -- an offer with what its cells are after the history
+  after-with : (reads cells : List (ℕ × ℕ)) → reads ≡ cells → IsOfferWith b H r.worker n m cells (offer_with r n m reads)
+  after-with reads cells known = record {
     worker = refl;
     number = refl;
     move = refl;
     seen = stands.seen;
     price = price-is;
-    reads = offered-reads;
+    reads = known;
     frozen = frozen-is;
   }
 
-  pub priced-after : IsPricedAfter b H r.worker n m (priced_of r n m)
-  priced-after = record {
-    worker = refl;
-    number = refl;
-    move = refl;
-    seen = stands.seen;
-    price = price-is;
-    reads = reads-are;
-    frozen = frozen-is;
-  }
+  offer-after : IsOfferAfter b H r.worker n m (offer_of r n m)
+  offer-after = after-with (offer_of r n m).reads.pairs _ offered-reads
+
+  priced-after : IsPricedAfter b H r.worker n m (priced_of r n m)
+  priced-after = after-with (reads_of r m) (reads_after b H m) reads-are
 
   whole : take r.seen H ≡ H
   whole = let same = stands.seen in take_all r.seen H (omega (arith, same))
@@ -93,14 +90,14 @@ module _ (b : Base) (H : List Tried) (r : ReplicaState) (n : ℕ) (m : List Move
     };
   }
 
-  pub stands-offered : IsReplicaOf b H (record r { last = offer_of r n m })
+  stands-offered : IsReplicaOf b H (record r { last = offer_of r n m })
   stands-offered = stands-with (if asks_reads r n m then reads_of r m else []) (by_case (asks_reads r n m))
     where
       by_case : (t : Bool) → ((if t then reads_of r m else []) ≡ []) ⊎ ((if t then reads_of r m else []) ≡ reads_of r m)
       by_case true = inr refl
       by_case false = inl refl
 
-  pub stands-priced : IsReplicaOf b H (record r { last = priced_of r n m })
+  stands-priced : IsReplicaOf b H (record r { last = priced_of r n m })
   stands-priced = stands-with (reads_of r m) (inr refl)
 
   -- an offer is right where it has the cells if its verdict rests on them
@@ -122,12 +119,40 @@ module _ (b : Base) (H : List Tried) (r : ReplicaState) (n : ℕ) (m : List Move
         frozen = frozen-is ∙ ap (λ P. is_frozen b P m) (sym here);
       }
 
-  pub offer-right : AreMoves r.base.instance m → r.worker < b.options.workers → next_number b.options H r.worker ≡ Some n → IsRightOffer b H (offer_of r n m)
+  offer-right : AreMoves r.base.instance m → r.worker < b.options.workers → next_number b.options H r.worker ≡ Some n → IsRightOffer b H (offer_of r n m)
   offer-right =
       right-with (if asks_reads r n m then reads_of r m else []) (λ asked. ap (λ (t : Bool). if t then reads_of r m else []) asked ∙ reads-are)
 
-  pub priced-right : AreMoves r.base.instance m → r.worker < b.options.workers → next_number b.options H r.worker ≡ Some n → IsRightOffer b H (priced_of r n m)
+  priced-right : AreMoves r.base.instance m → r.worker < b.options.workers → next_number b.options H r.worker ≡ Some n → IsRightOffer b H (priced_of r n m)
   priced-right = right-with (reads_of r m) (λ asked. reads-are)
+
+-- ---- what is told of it
+
+-- The replica has changed by its last offer alone, which is told, and which P holds of.
+abbrev pub Tells : (Offered → Type 0) → ReplicaState → ReplicaState → Offered → Type 0
+Tells P r s o = ((s.base ≡ r.base) × (s.worker ≡ r.worker) × StandsAs r s) × P o × IsWithin (10 ^ 11) o.price
+
+module _ (r s : ReplicaState) (n : ℕ) (m : List Move) (o : Offered) (told : o ≡ s.last) (fits : AreMoves r.base.instance m) (within : IsWithin (10 ^ 11) s.last.price) where
+  told-as : (P : Offered → Type 0) (p : Offered) → s ≡ record r { last = p } → StandsAs r (record r { last = p }) → P p → Tells P r s o
+  told-as P p made stands holds = (
+    (
+      ap (λ (t : ReplicaState). t.base) made,
+      ap (λ (t : ReplicaState). t.worker) made,
+      λ b H there. subst (IsReplicaOf b H) (sym made) (stands b H there),
+    ),
+    subst P (sym (told ∙ ap (λ (t : ReplicaState). t.last) made)) holds,
+    subst (λ (q : Offered). IsWithin (10 ^ 11) q.price) (sym told) within,
+  )
+
+  pub offer-told : s ≡ record r { last = offer_of r n m } → Tells (λ q. IsOfferOf r n m q × IsRightFor r n q) r s o
+  offer-told made =
+      told-as (λ q. IsOfferOf r n m q × IsRightFor r n q) (offer_of r n m) made (λ b H there. stands-offered b H r n m there)
+      ((λ b H there. offer-after b H r n m there), (λ b H there worker number. offer-right b H r n m there fits worker number))
+
+  pub price-told : s ≡ record r { last = priced_of r n m } → Tells (λ q. IsPricedOf r n m q × IsRightFor r n q) r s o
+  price-told made =
+      told-as (λ q. IsPricedOf r n m q × IsRightFor r n q) (priced_of r n m) made (λ b H there. stands-priced b H r n m there)
+      ((λ b H there. priced-after b H r n m there), (λ b H there worker number. priced-right b H r n m there fits worker number))
 
 -- ---- how it is read off
 

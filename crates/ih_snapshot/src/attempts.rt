@@ -40,7 +40,7 @@ pub(crate) fn is_compared(
     requires within { IsWithin (10 ^ 11) price.now }
     ensures { result ≡ is_compared inst.now.draft options.now frozen attempt_no price.now }
 {
-    !frozen && price.score(options.hard, inst.weights()) <= most_at(options, attempt_no)
+    !frozen && inst.score_of(options.hard, price) <= most_at(options, attempt_no)
 }
 
 // Whether the entry is that of the offer, and the offer read any cells.

@@ -3,7 +3,6 @@
 ghost use Rattle.std.specs.Prelude.{◌≡◌};
 ghost use Rattle.ih_plan.specs.Timetable.{IsPlanOf};
 
-use crate::tests::snapshot::READS;
 use crate::tests::steps::{COLD, JOIN};
 use ih_chain::{Chain, ChainReplica};
 use ih_fixtures::on_first_admitted;
@@ -11,6 +10,21 @@ use ih_journal::parse_move;
 use ih_plan::Plan;
 use ih_tables::Instance;
 use std::alloc::Global;
+
+// What the price of joining the first patient rests on, each cell with its version.
+const READS: [(u32, u32); 11] = [
+    (1, 0),
+    (2, 0),
+    (8, 0),
+    (10, 0),
+    (12, 0),
+    (13, 0),
+    (14, 0),
+    (24, 0),
+    (25, 0),
+    (26, 0),
+    (37, 0),
+];
 
 // Whether the price of joining has each cell that it was read from, and the offer none.
 fn is_read(inst: &Instance, replica: &mut ChainReplica<'_>) -> bool

@@ -9,8 +9,9 @@ ghost use Rattle.ih_desk.specs.Desks.{IsSeatAt, base_of, worker_count};
 ghost use Rattle.ih_search_tests.specs.NewSeats.{IsNewSeat};
 
 use crate::tests::rounds::may_come;
-use crate::tests::snapshot::{new_book, two_replicas};
-use crate::tests::steps::{FIRST_NURSE, JOIN, SECOND_NURSE, TWICE_STALE, hot};
+use crate::tests::steps::{
+    FIRST_NURSE, JOIN, SECOND_NURSE, TWICE_STALE, hot, new_book, two_replicas,
+};
 use ih_cellbook::{Book, Buffer, Offer};
 use ih_desk::{Desk, DeskSeat};
 use ih_fixtures::on_first_admitted;

@@ -1,11 +1,10 @@
-//! What the entries of a book come to: timetables, full bills, and a line of the journal.
+//! What the entries of a book come to: timetables and full bills.
 
 ghost use Rattle.std.specs.Prelude.{◌≡◌, IfSome};
 ghost use Rattle.ih_plan.specs.Timetable.{IsPlanOf};
 
 use ih_cellbook::{Book, plan_at};
 use ih_fixtures::is_dearer_by;
-use ih_journal::{Entry, Options, Verdict, line};
 use ih_plan::Plan;
 use ih_solution::write_solution;
 use ih_tables::{Bill, Instance};
@@ -21,7 +20,7 @@ fn plan_after(
     place: u32,
 ) -> Option<Plan>
     requires start { IsPlanOf inst.now.draft start.now }
-    requires instance { book.now.base.instance ≡ inst.now.draft }
+    requires instance { inst.now.draft ≡ book.now.base.instance }
     ensures { IfSome result (IsPlanOf inst.now.draft) }
 {
     let entries = book.entries();
@@ -43,7 +42,7 @@ fn bill_after(
     place: u32,
 ) -> Option<Bill>
     requires start { IsPlanOf inst.now.draft start.now }
-    requires instance { book.now.base.instance ≡ inst.now.draft }
+    requires instance { inst.now.draft ≡ book.now.base.instance }
 {
     match plan_after(alloc, inst, start, book, place) {
         Some(plan) => Some(bill(inst, &plan)),
@@ -51,20 +50,22 @@ fn bill_after(
     }
 }
 
-/// Whether the second entry's price is what the full bill after it has more than the one before it.
-pub(crate) fn is_second_exact(alloc: Global, inst: &Instance, start: &Plan, book: &Book<'_>) -> bool
+/// Whether the price of the entry at a place is what the full bill after it has more than the one before it.
+pub(crate) fn is_exact(
+    alloc: Global,
+    inst: &Instance,
+    start: &Plan,
+    book: &Book<'_>,
+    place: u32,
+) -> bool
     requires start { IsPlanOf inst.now.draft start.now }
-    requires instance { book.now.base.instance ≡ inst.now.draft }
+    requires instance { inst.now.draft ≡ book.now.base.instance }
 {
-    let Some(before) = bill_after(alloc, inst, start, book, 1) else {
-        return false;
-    };
-    let Some(after) = bill_after(alloc, inst, start, book, 2) else {
-        return false;
-    };
-    match book.entries().get(1) {
-        Some(entry) => is_dearer_by(&after, &before, &entry.price),
-        None => false,
+    let before = bill_after(alloc, inst, start, book, place);
+    let after = bill_after(alloc, inst, start, book, place.saturating_add(1));
+    match (before, after, book.entries().get(place as usize)) {
+        (Some(before), Some(after), Some(entry)) => is_dearer_by(&after, &before, &entry.price),
+        _ => false,
     }
 }
 
@@ -82,45 +83,19 @@ fn are_written_alike(alloc: Global, inst: &Instance, one: &Plan, two: &Plan) -> 
     }
 }
 
-/// Whether the timetable after three entries is the start again.
-pub(crate) fn is_start_again(alloc: Global, inst: &Instance, start: &Plan, book: &Book<'_>) -> bool
+/// Whether the timetable after so many entries is the start again.
+pub(crate) fn is_start(
+    alloc: Global,
+    inst: &Instance,
+    start: &Plan,
+    book: &Book<'_>,
+    place: u32,
+) -> bool
     requires start { IsPlanOf inst.now.draft start.now }
-    requires instance { book.now.base.instance ≡ inst.now.draft }
+    requires instance { inst.now.draft ≡ book.now.base.instance }
 {
-    match plan_after(alloc, inst, start, book, 3) {
+    match plan_after(alloc, inst, start, book, place) {
         Some(plan) => are_written_alike(alloc, inst, start, &plan),
-        None => false,
-    }
-}
-
-// The price of joining once the second nurse has the night.
-const JOINED_AGAIN: Bill = Bill {
-    v: [1, 0, 0, 0, 0, 0, 1, 0, 0],
-    s: [1, 4, 2, 2, 1, 1, 0, -1],
-};
-
-// Whether the entry is a first move's second try, which had seen two entries and was accepted for that price.
-fn is_accepted_again(entry: &Entry) -> bool {
-    (entry.worker, entry.number, entry.again, entry.seen) == (0, 0, 1, 2)
-        && entry.price == JOINED_AGAIN
-        && entry.verdict == Verdict::Accepted
-}
-
-// Whether the line of such an entry is so. Its price is put in anew: then it is plain that it is in range.
-fn has_line(alloc: Global, options: &Options, entry: &Entry) -> bool {
-    let mut out = Vec::new(alloc);
-    let entry = Entry {
-        price: JOINED_AGAIN,
-        ..*entry
-    };
-    let wanted = "2 0 0 1 2 place:1,0,0,1 1,0,0,0,0,0,1,0,0,1,4,2,2,1,1,0,-1 accepted\n";
-    line(options, 2, &entry, &mut out).is_ok() && out.as_slice() == wanted.as_bytes()
-}
-
-/// Whether the third entry is such a second try, and its line tells that.
-pub(crate) fn is_second_try(alloc: Global, options: &Options, entries: &[Entry]) -> bool {
-    match entries.get(2) {
-        Some(entry) => is_accepted_again(entry) && has_line(alloc, options, entry),
         None => false,
     }
 }

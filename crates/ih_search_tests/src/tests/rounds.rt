@@ -7,11 +7,12 @@ ghost use Rattle.ih_journal.specs.Attempts.{try_after, is_done_after, is_retried
 ghost use Rattle.ih_journal.specs.Tried.{tried, tries};
 ghost use Rattle.ih_cellbook.specs.{Laws.HasNoneBy, Offers.next_number, Replicas.IsReplicaIn, ReplicaState.ReplicaState};
 
+use crate::tests::words::are_reads;
 use ih_cellbook::{Book, Buffer, News, Offer};
 use ih_journal::{Entry, Options, Verdict};
 use ih_plan::Move;
 use ih_snapshot::Replica;
-use ih_tables::Instance;
+use ih_tables::{Bill, Instance};
 
 // The last entry of a worker.
 fn last_by(entries: &[Entry], worker: u32) -> Option<Entry>
@@ -98,48 +99,41 @@ pub(crate) fn offer(
     }
 }
 
-/// What a price is to be: its score by a hard weight of 1000, broken rules and costs, and the cells that it rests on,
-/// each at its version, where they are told.
-#[derive(Clone, Copy)]
-pub(crate) struct Priced {
-    pub(crate) score: i64,
-    pub(crate) broken: [i64; 9],
-    pub(crate) soft: [i64; 8],
-    pub(crate) reads: Option<&'static [(u32, u32)]>,
-}
-
-fn rests_on(offer: &Offer, reads: Option<&[(u32, u32)]>) -> bool {
-    match reads {
-        Some(reads) => offer.reads.as_slice() == reads,
-        None => true,
+// Whether the price has this score by a hard weight of 1000.
+fn has_score(inst: &Instance, price: &Bill, score: &str) -> bool
+    requires { IsWithin (10 ^ 11) price.now }
+{
+    match score.parse::<i64>() {
+        Ok(score) => price.score(1_000, inst.weights()) == score,
+        Err(_) => false,
     }
 }
 
-// Whether the offer has this price.
-fn has_price(inst: &Instance, offer: &Offer, price: &Priced) -> bool
+// Whether the offer is that of the entry, its price has this score, and these cells were read where they are told.
+fn is_like(inst: &Instance, offer: &Offer, entry: &Entry, score: &str, reads: &str) -> bool
     requires { IsWithin (10 ^ 11) offer.now.price }
 {
-    offer.price.v == price.broken
-        && offer.price.s == price.soft
-        && offer.price.score(1_000, inst.weights()) == price.score
-        && rests_on(offer, price.reads)
+    (offer.worker, offer.number, offer.seen) == (entry.worker, entry.number, entry.seen)
+        && offer.price == entry.price
+        && has_score(inst, &offer.price, score)
+        && (reads.is_empty() || are_reads(offer.reads.as_slice(), reads))
 }
 
-/// Whether the replica prices a move so.
+/// Whether the replica prices an entry's move as the entry says.
 pub(crate) fn is_priced(
     inst: &Instance,
     book: &Book<'_>,
     replica: &mut Replica<'_>,
-    mv: &Move,
-    attempt_no: u32,
-    price: &Priced,
+    entry: &Entry,
+    score: &str,
+    reads: &str,
 ) -> bool
     requires replica { IsReplicaIn book.now.base book.now.entries replica.old }
-    requires move_in { IsMoveOf book.now.base.instance mv.now }
+    requires move_in { IsMoveOf book.now.base.instance entry.now.mv }
     ensures { IsReplicaIn book.now.base book.now.entries replica.new }
 {
-    let offer = replica.price(mv, attempt_no);
-    has_price(inst, offer, price)
+    let offer = replica.price(&entry.mv, entry.number);
+    is_like(inst, offer, entry, score, reads)
 }
 
 /// The replica takes over the entries past it, or the first 256 of them, as a copy has them. Answers how many entries

@@ -1,11 +1,18 @@
-//! The moves and verdicts of the tests on the ward of two patients, of whom the first is admitted, with one nurse in
-//! all shifts.
+//! What the tests of desks and workers begin with, on the ward of two patients, of whom the first is admitted, with one
+//! nurse in all shifts.
 
-ghost use Rattle.std.specs.Prelude.{◌≡◌};
+ghost use Rattle.std.specs.Prelude.{◌≡◌, [], IfOk};
+ghost use Rattle.ih_plan.specs.Timetable.{IsPlanOf};
+ghost use Rattle.ih_journal.specs.Settings.{IsLawful};
+ghost use Rattle.ih_cellbook.specs.{Keeping.base_with, Replicas.IsReplicaOf};
 
-use ih_cellbook::Offer;
-use ih_journal::{Entry, Options, Verdict};
-use ih_tables::{Cell, RoomNo, Shift};
+use ih_cellbook::Book;
+use ih_journal::{Options, Verdict};
+use ih_plan::Plan;
+use ih_snapshot::Replica;
+use ih_tables::{Cell, Instance, RoomNo, Shift};
+use ih_validate::bill;
+use std::alloc::{AllocError, Global};
 
 /// The options of a hot search, in which no price is too high.
 pub(crate) fn hot(workers: u32, moves: u32, retries: u32) -> Options
@@ -63,34 +70,37 @@ pub(crate) const TWICE_STALE: Verdict = Verdict::Stale {
     at_place: 2,
 };
 
-/// Whether an offer has these numbers: worker, number and seen, the price, and what was read.
-pub(crate) fn is(
-    offer: &Offer,
-    numbers: (u32, u32, u32),
-    price: &([i64; 9], [i64; 8]),
-    reads: &[(u32, u32)],
-) -> bool {
-    (offer.worker, offer.number, offer.seen) == numbers
-        && offer.price.v == price.0
-        && offer.price.s == price.1
-        && offer.reads.as_slice() == reads
-        && !offer.frozen
+/// Two workers over a start, of whom neither has seen anything.
+pub(crate) fn two_replicas<'a>(
+    alloc: Global,
+    inst: &'a Instance,
+    start: &Plan,
+    options: &Options,
+    freeze: u32,
+) -> Result<(Replica<'a>, Replica<'a>), AllocError>
+    requires start { IsPlanOf inst.now.draft start.now }
+    requires lawful { IsLawful options.now }
+    ensures { let base = base_with inst.now.draft start.now options.now freeze in
+        IfOk result (λ t. IsReplicaOf base [] t.0 × IsReplicaOf base [] t.1) }
+{
+    let zero = Replica::new(alloc, inst, start, options, freeze, 0)?;
+    let one = Replica::new(alloc, inst, start, options, freeze, 1)?;
+    Ok((zero, one))
 }
 
-// Whether the entry at a place has this price.
-fn costs(entries: &[Entry], place: usize, broken: &[i64; 9], soft: &[i64; 8]) -> bool {
-    match entries.get(place) {
-        Some(entry) => entry.price.v == *broken && entry.price.s == *soft,
-        None => false,
-    }
-}
-
-/// Whether each of these places has an entry of this price.
-pub(crate) fn have_prices(entries: &[Entry], prices: &[(usize, [i64; 9], [i64; 8])]) -> bool {
-    for (place, broken, soft) in prices {
-        if !costs(entries, *place, broken, soft) {
-            return false;
-        }
-    }
-    true
+/// A book over a start, without entries.
+pub(crate) fn new_book<'a>(
+    alloc: Global,
+    inst: &'a Instance,
+    start: &'a Plan,
+    options: &Options,
+    freeze: u32,
+) -> Result<Book<'a>, AllocError>
+    requires start { IsPlanOf inst.now.draft start.now }
+    requires lawful { IsLawful options.now }
+    ensures { let base = base_with inst.now.draft start.now options.now freeze in
+        IfOk result (λ k. k ≡ record { base = base; entries = [] }) }
+{
+    let first = bill(inst, start);
+    Book::new(alloc, inst, start, &first, options, freeze)
 }

@@ -1,6 +1,6 @@
 //! Turns over lists of numbers, by seats one after the other and in threads.
 
-ghost use Rattle.std.specs.Prelude.{◌≡◌, ◌+◌, ◌-◌, ◌*◌, ◌^◌, ◌<◌, ◌≤◌, IfSome};
+ghost use Rattle.std.specs.Prelude.{◌≡◌, ◌+◌, ◌-◌, ◌*◌, ◌^◌, ◌<◌, ◌≤◌};
 ghost use Rattle.ih_turn.specs.Seats.{IsSeatOf, seat_count, number_of, turns_left};
 
 use ih_turn::{Kept, Seat, Turn};
@@ -104,22 +104,6 @@ fn all_add<R: Threads + Wait + Sync>(
     Ok(made.len() == seats as usize)
 }
 
-// The turn is closed with both its seats.
-fn closed(
-    alloc: Global,
-    turn: Turn<Numbers>,
-    one: Seat<Numbers>,
-    two: Seat<Numbers>,
-) -> Result<Numbers, AllocError>
-    requires own { (seat_count turn ≡ 2) × IsSeatOf turn one × IsSeatOf turn two }
-    requires numbers { (number_of one ≡ 0) × (number_of two ≡ 1) }
-{
-    let mut seats = Vec::new(alloc);
-    seats.push(one)?;
-    seats.push(two)?;
-    Ok(turn.close(seats))
-}
-
 // How often a number is there.
 fn count_of(list: &Numbers, number: u64) -> u64 {
     let mut count: u64 = 0;
@@ -131,15 +115,44 @@ fn count_of(list: &Numbers, number: u64) -> u64 {
     count
 }
 
-// The list of a turn whose two seats, each in a thread of its own, have added their numbers in each of so many turns.
-fn added<R: Threads + Wait + Sync>(
+// Whether a list has so many of each of the two seats' numbers, and no other.
+fn has_just(list: &Numbers, fives: u64, sixes: u64) -> bool {
+    count_of(list, 5) == fives
+        && count_of(list, 6) == sixes
+        && list.len() == fives.saturating_add(sixes)
+}
+
+// Whether the turn's list is so once both its seats have come back.
+fn closes_with(
+    alloc: Global,
+    turn: Turn<Numbers>,
+    one: Seat<Numbers>,
+    two: Seat<Numbers>,
+    fives: u64,
+    sixes: u64,
+) -> bool
+    requires own { (seat_count turn ≡ 2) × IsSeatOf turn one × IsSeatOf turn two }
+    requires numbers { (number_of one ≡ 0) × (number_of two ≡ 1) }
+{
+    let mut seats = Vec::new(alloc);
+    let Ok(()) = seats.push(one) else {
+        return false;
+    };
+    let Ok(()) = seats.push(two) else {
+        return false;
+    };
+    has_just(&turn.close(seats), fives, sixes)
+}
+
+// Whether two seats, each of which adds its number in each of so many turns in a thread of its own, leave just these.
+fn both_add<R: Threads + Wait + Sync>(
     rt: &R,
     alloc: Global,
     turn: Turn<Numbers>,
     one: Seat<Numbers>,
     two: Seat<Numbers>,
     turns: u64,
-) -> Result<Numbers, AllocError>
+) -> bool
     requires own { (seat_count turn ≡ 2) × IsSeatOf turn one × IsSeatOf turn two }
     requires numbers { (number_of one ≡ 0) × (number_of two ≡ 1) }
     requires left { (turns ≤ turns_left one) × (turns ≤ turns_left two) }
@@ -150,49 +163,7 @@ fn added<R: Threads + Wait + Sync>(
         || add_all(rt, shared, one, turns),
         || add_all(rt, shared, two, turns),
     );
-    closed(alloc, turn, one, two)
-}
-
-// A turn over an empty list, and its two seats, each with so many turns.
-fn two_seats(alloc: Global, turns: u64) -> Option<(Turn<Numbers>, Seat<Numbers>, Seat<Numbers>)>
-    requires { turns ≤ 1000 }
-    ensures own { IfSome result (λ t. (seat_count t.0 ≡ 2) × IsSeatOf t.0 t.1 × IsSeatOf t.0 t.2) }
-    ensures numbers { IfSome result (λ t. (number_of t.1 ≡ 0) × (number_of t.2 ≡ 1)) }
-    ensures left { IfSome result (λ t. (turns_left t.1 ≡ turns) × (turns_left t.2 ≡ turns)) }
-{
-    let empty = Numbers {
-        items: Vec::new(alloc),
-    };
-    let Ok((turn, mut seats)) = Turn::new(alloc, empty, 2, turns) else {
-        return None;
-    };
-    let two = seats.pop()?;
-    let one = seats.pop()?;
-    if one.number() == 0 && two.number() == 1 {
-        Some((turn, one, two))
-    } else {
-        None
-    }
-}
-
-// Whether a list has a thousand of each number, and no other.
-fn has_two_thousand(list: &Numbers) -> bool {
-    list.items.len() == 2000 && count_of(list, 5) == 1000 && count_of(list, 6) == 1000
-}
-
-// Whether two seats of a thousand turns each leave a thousand of each number.
-fn leave_two_thousand<R: Threads + Wait + Sync>(rt: &R, alloc: Global) -> bool {
-    match two_seats(alloc, 1000) {
-        Some((turn, one, two)) => {
-            added(rt, alloc, turn, one, two, 1000).is_ok_and(|list| has_two_thousand(&list))
-        }
-        None => false,
-    }
-}
-
-#[test]
-fn two_threads_leave_two_thousand(rt: HostRuntime) {
-    assert!(rt; leave_two_thousand(&rt, rt.alloc()));
+    closes_with(alloc, turn, one, two, turns, turns)
 }
 
 // Whether the seat has seen, made and left so many.
@@ -200,15 +171,14 @@ fn has(seat: &Seat<Numbers>, seen: u64, made: u64, left: u64) -> bool {
     seat.seen() == seen && seat.made() == made && seat.left() == left
 }
 
-// The first of two seats adds the number 5, and the second none. Answers the list in the end, and none where a seat
-// counts otherwise.
-fn five_alone<R: Wait>(
+// Whether the list is that of 5 alone where the first of two seats adds its number, and the second nothing.
+fn first_adds<R: Wait>(
     rt: &R,
     alloc: Global,
     turn: Turn<Numbers>,
     one: Seat<Numbers>,
     two: Seat<Numbers>,
-) -> Option<Numbers>
+) -> bool
     requires own { (seat_count turn ≡ 2) × IsSeatOf turn one × IsSeatOf turn two }
     requires numbers { (number_of one ≡ 0) × (number_of two ≡ 1) }
     requires left { (0 < turns_left one) × (0 < turns_left two) }
@@ -217,26 +187,50 @@ fn five_alone<R: Wait>(
     let one = step(rt, &turn, one, true);
     let two = step(rt, &turn, two, false);
     if has(&one, 1, 1, 1) && has(&two, 1, 0, 1) {
-        closed(alloc, turn, one, two).ok()
+        closes_with(alloc, turn, one, two, 1, 0)
     } else {
-        None
+        false
     }
 }
 
-// Whether the list is then that of 5 alone.
-fn is_five_alone<R: Wait>(rt: &R, alloc: Global) -> bool {
-    match two_seats(alloc, 2) {
-        Some((turn, one, two)) => five_alone(rt, alloc, turn, one, two).is_some_and(|list| list
-            .items
-            .as_slice()
-            == [5].as_slice()),
-        None => false,
+// Whether two seats with so many turns leave what they are to, in threads of their own or one after the other.
+fn two_leave_theirs<R: Threads + Wait + Sync>(
+    rt: &R,
+    alloc: Global,
+    turns: u64,
+    in_threads: bool,
+) -> bool
+    requires { (1 ≤ turns) × (turns ≤ 1000) }
+{
+    let empty = Numbers {
+        items: Vec::new(alloc),
+    };
+    let Ok((turn, mut seats)) = Turn::new(alloc, empty, 2, turns) else {
+        return false;
+    };
+    let Some(two) = seats.pop() else {
+        return false;
+    };
+    let Some(one) = seats.pop() else {
+        return false;
+    };
+    if one.number() != 0 || two.number() != 1 {
+        false
+    } else if in_threads {
+        both_add(rt, alloc, turn, one, two, turns)
+    } else {
+        first_adds(rt, alloc, turn, one, two)
     }
 }
 
 #[test]
+fn two_threads_leave_two_thousand(rt: HostRuntime) {
+    assert!(rt; two_leave_theirs(&rt, rt.alloc(), 1000, true));
+}
+
+#[test]
 fn a_list_of_five_alone(rt: HostRuntime) {
-    assert!(rt; is_five_alone(&rt, rt.alloc()));
+    assert!(rt; two_leave_theirs(&rt, rt.alloc(), 2, false));
 }
 
 // In one thread, in two, and in as many as a search may have.

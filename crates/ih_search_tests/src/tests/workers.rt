@@ -10,8 +10,7 @@ ghost use Rattle.ih_desk.specs.Workers.{IsReady, enough_turns};
 ghost use Rattle.ih_search_tests.specs.NewSeats.{IsNewSeat};
 
 use crate::tests::desk::two_seats;
-use crate::tests::snapshot::new_book;
-use crate::tests::steps::cold;
+use crate::tests::steps::{cold, new_book};
 use ih_cellbook::Buffer;
 use ih_desk::{Desk, DeskSeat};
 use ih_fixtures::on_first_admitted;

@@ -11,5 +11,5 @@ plan_at-requires-clause-moves c =
     let v = c.args.book.now in
     let moves : All (λ (e : Tried). AreMoves v.base.instance e.moves) v.entries =
     λ k d h. (c.entries-entries.ensures.legal k (get_or v.entries k d) (slice_get-get_or v.entries k d h)).move in
-    subst (λ (I : Draft). All (λ (e : Tried). AreMoves I e.moves) (tries c.entries-entries.result.now)) c.requires.instance
+    subst (λ (I : Draft). All (λ (e : Tried). AreMoves I e.moves) (tries c.entries-entries.result.now)) (sym c.requires.instance)
     (subst (All (λ (e : Tried). AreMoves v.base.instance e.moves)) (sym c.entries-entries.ensures.entries) moves)
