@@ -1,11 +1,11 @@
 -- The tags of days are the page's own.
-use Rattle.std.proofs.Common.{ℕ, codes, refl, List, Option, Some, None}
+use Rattle.std.proofs.Common.{ℕ, codes, refl, List, [], Option, Some, None}
 use Rattle.jiff.specs.Types.{Date}
 use Rattle.jiff_fmt.specs.Temporal.{DateParts}
 use Rattle.ih_tables.specs.declared.drafts.Draft.{Draft}
 use Rattle.ih_page.specs.Dates.{month_name, weekday_name}
 use Rattle.ih_page.specs.Html.{labelled}
-use Rattle.ih_page.specs.DayHeads.{beside_if, date_text, dated_below, dated_beside, dated_if, dated_text, day_behind, day_head, day_text, heads_and_days, table_head}
+use Rattle.ih_page.specs.DayHeads.{date_text, dated_between, dated_if, dated_text, day_behind, day_head, day_text, heads_and_days, table_head}
 use Rattle.ih_page.proofs.Scans.{Own, all-below, by_pieces}
 use Rattle.ih_page.proofs.NamesAndNumbers.{names_and_numbers}
 
@@ -21,13 +21,13 @@ dated : (date : DateParts) → Own (dated_text date)
 unfolding dated_text date_text
 dated date ids = simp (by_pieces, names_and_numbers, month, weekday) refl
 
-below : (date : Option DateParts) → Own (dated_if date)
-unfolding dated_below
+below : (date : Option DateParts) → Own (dated_if (codes "<br>") date [])
+unfolding dated_between
 below None ids = refl
 below (Some date) ids = simp (by_pieces, dated) refl
 
-beside : (date : Option DateParts) → Own (beside_if date)
-unfolding dated_beside
+beside : (date : Option DateParts) → Own (dated_if (codes " (") date (codes ")"))
+unfolding dated_between
 beside None ids = refl
 beside (Some date) ids = simp (by_pieces, dated) refl
 

@@ -13,25 +13,17 @@ pub rule-name : (i : ℕ) → Own (rule_name i)
 unfolding rule_name
 rule-name i ids = simp by_pieces refl
 
-rule-unit : (i : ℕ) → Own (rule_unit i)
-unfolding rule_unit
-rule-unit i ids = simp by_pieces refl
-
 pub cost-name : (i : ℕ) → Own (cost_name i)
 unfolding cost_name
 cost-name i ids = simp by_pieces refl
 
-cost-unit : (i : ℕ) → Own (cost_unit i)
-unfolding cost_unit
-cost-unit i ids = simp by_pieces refl
-
 rule-row : (i : ℕ) (x : ℤ) → Own (rule_row i x)
-unfolding line_head line_link line_text hard_text
-rule-row i x ids = simp (by_pieces, names_and_numbers, rule-name, rule-unit) refl
+unfolding line_head line_link line_text hard_text rule_unit
+rule-row i x ids = simp (by_pieces, names_and_numbers, rule-name) refl
 
 cost-row : (i : ℕ) (x w : ℤ) → Own (cost_row i x w)
-unfolding line_head line_link line_text product_text
-cost-row i x w ids = simp (by_pieces, names_and_numbers, cost-name, cost-unit) refl
+unfolding line_head line_link line_text product_text cost_unit
+cost-row i x w ids = simp (by_pieces, names_and_numbers, cost-name) refl
 
 verdict : (b : Bool) → Own (feasible_text b)
 verdict true ids = refl

@@ -43,11 +43,35 @@ shift_behind text I first k = day_behind text first (k / 3) ++ (codes ", " ++ sh
 abbrev pub shift_name : Draft → Option Date → ℕ → List ℕ
 shift_name I first k = shift_behind (codes ", day ") I first k
 
+-- what stands before the name of what a cell is of
+abbrev pub kind_text : Cell → List ℕ
+kind_text (Stay p) = []
+kind_text (RoomDay r d) = codes "room "
+kind_text (TheatreDay t d) = codes "theatre "
+kind_text (SurgeonDay s d) = codes "surgeon "
+kind_text (RoomShift r k) = codes "room "
+kind_text (NurseShift n k) = codes "nurse "
+kind_text (Care x) = []
+
+-- that name
+abbrev pub owner_name : Draft → Cell → List ℕ
+owner_name I (Stay p) = person_name I p.0
+owner_name I (RoomDay r d) = room_name I r.0
+owner_name I (TheatreDay t d) = theatre_name I t.0
+owner_name I (SurgeonDay s d) = surgeon_name I s.0
+owner_name I (RoomShift r k) = room_name I r.0
+owner_name I (NurseShift n k) = nurse_name I (Some n.0)
+owner_name I (Care x) = person_name I x.0
+
+-- the day or the shift of a cell, where it has one
+abbrev pub time_text : Draft → Option Date → Cell → List ℕ
+time_text I first (Stay p) = []
+time_text I first (RoomDay r d) = day_text first d.0
+time_text I first (TheatreDay t d) = day_text first d.0
+time_text I first (SurgeonDay s d) = day_text first d.0
+time_text I first (RoomShift r k) = shift_name I first k.0
+time_text I first (NurseShift n k) = shift_name I first k.0
+time_text I first (Care x) = []
+
 abbrev pub cell_text : Draft → Option Date → Cell → List ℕ
-cell_text I first (Stay p) = person_name I p.0
-cell_text I first (RoomDay r d) = codes "room " ++ (room_name I r.0 ++ day_text first d.0)
-cell_text I first (TheatreDay t d) = codes "theatre " ++ (theatre_name I t.0 ++ day_text first d.0)
-cell_text I first (SurgeonDay s d) = codes "surgeon " ++ (surgeon_name I s.0 ++ day_text first d.0)
-cell_text I first (RoomShift r k) = codes "room " ++ (room_name I r.0 ++ shift_name I first k.0)
-cell_text I first (NurseShift n k) = codes "nurse " ++ (nurse_name I (Some n.0) ++ shift_name I first k.0)
-cell_text I first (Care x) = person_name I x.0
+cell_text I first c = kind_text c ++ (owner_name I c ++ time_text I first c)

@@ -19,32 +19,25 @@ date_text date = decimal date.day ++ (codes " " ++ month_name date.month)
 unfoldable pub dated_text : DateParts → List ℕ
 dated_text date = weekday_name (weekday date) ++ (codes " " ++ date_text date)
 
--- that date in a line of its own
-unfoldable pub dated_below : DateParts → List ℕ
-dated_below date = codes "<br>" ++ dated_text date
+-- the same between two texts
+unfoldable pub dated_between : List ℕ → DateParts → List ℕ → List ℕ
+dated_between before date after = before ++ (dated_text date ++ after)
 
-abbrev pub dated_if : Option DateParts → List ℕ
-dated_if None = []
-dated_if (Some date) = dated_below date
+-- the same, where the date is known
+abbrev pub dated_if : List ℕ → Option DateParts → List ℕ → List ℕ
+dated_if before None after = []
+dated_if before (Some date) after = dated_between before date after
 
--- that date in brackets behind a number
-unfoldable pub dated_beside : DateParts → List ℕ
-dated_beside date = codes " (" ++ (dated_text date ++ codes ")")
-
-abbrev pub beside_if : Option DateParts → List ℕ
-beside_if None = []
-beside_if (Some date) = dated_beside date
-
--- a day in a line: its number behind a text, and its date if that is known
+-- a day in a line: its number behind a text, and its date in brackets if that is known
 unfoldable pub day_behind : List ℕ → Option Date → ℕ → List ℕ
-day_behind text first d = labelled text d ++ beside_if (date_of first d)
+day_behind text first d = labelled text d ++ dated_if (codes " (") (date_of first d) (codes ")")
 
 abbrev pub day_text : Option Date → ℕ → List ℕ
 day_text first d = day_behind (codes ", day ") first d
 
--- a day's number behind a tag, and its date if that is known
+-- a day's number behind a tag, and its date in a line of its own if that is known
 unfoldable pub day_head : Option Date → List ℕ → ℕ → List ℕ
-day_head first tag d = labelled tag d ++ dated_if (date_of first d)
+day_head first tag d = labelled tag d ++ dated_if (codes "<br>") (date_of first d) []
 
 -- a row of heads, of which the last are the days, each with this tag
 unfoldable pub heads_and_days : Draft → Option Date → List ℕ → List ℕ → List ℕ

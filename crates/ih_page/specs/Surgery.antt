@@ -84,14 +84,14 @@ placed_line I w p (Some at) = option_map_or (operation_line I w p at) (slice_get
 abbrev pub operation : Draft → Timetable → Resource → ℕ → ℕ → List ℕ
 operation I P w d p = if has_surgery I P w d p then placed_line I w p (stay_of P p) else []
 
--- the minutes of a day with so many surgeries and its patients, and nothing on a day without surgery
-abbrev pub surgery_of : Draft → Timetable → Resource → ℕ → ℕ → List ℕ
-surgery_of I P w d count =
-    if count == 0 then codes ">"
+-- the minutes of a day and its patients, and nothing on a day without surgery
+abbrev pub surgery_of : Draft → Timetable → Resource → ℕ → List ℕ
+surgery_of I P w d =
+    if surgery_count I P w d == 0 then codes ">"
     else (minutes_text (limit_of I w d) (planned I P w d) ++ lines_below (patient_count I) (operation I P w d))
 
 unfoldable pub surgery_td : Draft → Timetable → Resource → ℕ → List ℕ
-surgery_td I P w d = td_at (letter_of w) (number_of w) d ++ surgery_of I P w d (surgery_count I P w d)
+surgery_td I P w d = td_at (letter_of w) (number_of w) d ++ surgery_of I P w d
 
 unfoldable pub surgery_row : Draft → Timetable → Resource → List ℕ
 surgery_row I P w = codes "<tr><th>" ++ (resource_name I w ++ (lines_below I.days (surgery_td I P w) ++ codes "\n"))

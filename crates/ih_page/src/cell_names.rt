@@ -1,17 +1,16 @@
 //! What a cell is called, and where it stands in the page.
 
-ghost use Rattle.std.specs.Prelude.{◌≡◌, ◌<◌, ◌++◌, OnOk, codes};
-ghost use Rattle.ih_tables.specs.Sizes.{person_count, room_count, theatre_count, surgeon_count, nurse_count};
+ghost use Rattle.std.specs.Prelude.{◌≡◌, ◌<◌, ◌++◌, OnOk};
+ghost use Rattle.ih_tables.specs.Sizes.{person_count};
 ghost use Rattle.ih_plan.specs.Cells.{IsCellOf};
-ghost use Rattle.ih_page.specs.CellNames.{cell_anchor, person_name, shift_behind, shift_name, cell_text};
-ghost use Rattle.ih_page.specs.DayHeads.{day_text};
-ghost use Rattle.ih_page.specs.Rooms.{room_name, theatre_name, surgeon_name, nurse_name};
+ghost use Rattle.ih_page.specs.CellNames.{cell_anchor, cell_text, kind_text, owner_name, person_name};
+ghost use Rattle.ih_page.specs.CellNames.{shift_behind, shift_name, time_text};
 
 use crate::day_heads::{put_day, put_day_behind};
 use crate::names::{put_anchor, put_nurse, put_room, put_shift_type, put_surgeon, put_theatre};
 use crate::shown::Shown;
 use crate::texts::{Put, put, put_isolated, put_labelled};
-use ih_tables::{Cell, Day, Instance, NurseNo, PatientNo, RoomNo, Shift, SurgeonNo, TheatreNo};
+use ih_tables::{Cell, Instance, PatientNo};
 
 /// Appends the anchor of a cell of the timetable.
 pub fn put_cell_anchor(out: &mut Vec<u8>, cell: Cell) -> Put
@@ -60,61 +59,49 @@ fn put_shift(out: &mut Vec<u8>, shown: &Shown<'_>, shift: u32) -> Put
     put_shift_behind(out, shown, ", day ", shift)
 }
 
-fn put_room_day(out: &mut Vec<u8>, shown: &Shown<'_>, room: RoomNo, day: Day) -> Put
-    requires { room.0 < room_count shown.now.inst.now.draft }
-    ensures { OnOk result (out.new.items
-        ≡ out.old.items
-        ++ (codes "room " ++ (room_name shown.now.inst.now.draft room.0 ++ day_text shown.now.first day.0))) }
+fn kind_of(cell: Cell) -> &'static str
+    ensures { result.now ≡ kind_text cell }
 {
-    put(out, "room ")?;
-    put_room(out, shown.inst, room)?;
-    put_day(out, shown, day.0)
+    match cell {
+        Cell::Stay(_) => "",
+        Cell::RoomDay(..) => "room ",
+        Cell::TheatreDay(..) => "theatre ",
+        Cell::SurgeonDay(..) => "surgeon ",
+        Cell::RoomShift(..) => "room ",
+        Cell::NurseShift(..) => "nurse ",
+        Cell::Care(_) => "",
+    }
 }
 
-fn put_theatre_day(out: &mut Vec<u8>, shown: &Shown<'_>, theatre: TheatreNo, day: Day) -> Put
-    requires { theatre.0 < theatre_count shown.now.inst.now.draft }
-    ensures { OnOk result (out.new.items
-        ≡ out.old.items
-        ++ (codes "theatre " ++ (theatre_name shown.now.inst.now.draft theatre.0 ++ day_text shown.now.first day.0))) }
+// Appends the name of what the cell is of.
+fn put_owner(out: &mut Vec<u8>, inst: &Instance, cell: Cell) -> Put
+    requires { IsCellOf inst.now.draft cell }
+    ensures { OnOk result (out.new.items ≡ out.old.items ++ owner_name inst.now.draft cell) }
 {
-    put(out, "theatre ")?;
-    put_theatre(out, shown.inst, theatre)?;
-    put_day(out, shown, day.0)
+    match cell {
+        Cell::Stay(p) => put_person(out, inst, p.0),
+        Cell::RoomDay(r, _) => put_room(out, inst, r),
+        Cell::TheatreDay(t, _) => put_theatre(out, inst, t),
+        Cell::SurgeonDay(s, _) => put_surgeon(out, inst, s),
+        Cell::RoomShift(r, _) => put_room(out, inst, r),
+        Cell::NurseShift(n, _) => put_nurse(out, inst, Some(n)),
+        Cell::Care(x) => put_person(out, inst, x.0),
+    }
 }
 
-fn put_surgeon_day(out: &mut Vec<u8>, shown: &Shown<'_>, surgeon: SurgeonNo, day: Day) -> Put
-    requires { surgeon.0 < surgeon_count shown.now.inst.now.draft }
-    ensures { OnOk result (out.new.items
-        ≡ out.old.items
-        ++ (codes "surgeon " ++ (surgeon_name shown.now.inst.now.draft surgeon.0 ++ day_text shown.now.first day.0))) }
+// Appends the day or the shift of the cell, where it has one.
+fn put_time(out: &mut Vec<u8>, shown: &Shown<'_>, cell: Cell) -> Put
+    ensures { OnOk result (out.new.items ≡ out.old.items ++ time_text shown.now.inst.now.draft shown.now.first cell) }
 {
-    put(out, "surgeon ")?;
-    put_surgeon(out, shown.inst, surgeon)?;
-    put_day(out, shown, day.0)
-}
-
-fn put_room_shift(out: &mut Vec<u8>, shown: &Shown<'_>, room: RoomNo, shift: Shift) -> Put
-    requires { room.0 < room_count shown.now.inst.now.draft }
-    ensures { OnOk result (out.new.items ≡ out.old.items
-        ++ (codes "room "
-        ++ (room_name shown.now.inst.now.draft room.0
-        ++ shift_name shown.now.inst.now.draft shown.now.first shift.0))) }
-{
-    put(out, "room ")?;
-    put_room(out, shown.inst, room)?;
-    put_shift(out, shown, shift.0)
-}
-
-fn put_nurse_shift(out: &mut Vec<u8>, shown: &Shown<'_>, nurse: NurseNo, shift: Shift) -> Put
-    requires { nurse.0 < nurse_count shown.now.inst.now.draft }
-    ensures { OnOk result (out.new.items ≡ out.old.items
-        ++ (codes "nurse "
-        ++ (nurse_name shown.now.inst.now.draft (Some nurse.0)
-        ++ shift_name shown.now.inst.now.draft shown.now.first shift.0))) }
-{
-    put(out, "nurse ")?;
-    put_nurse(out, shown.inst, Some(nurse))?;
-    put_shift(out, shown, shift.0)
+    match cell {
+        Cell::Stay(_) => Ok(()),
+        Cell::RoomDay(_, d) => put_day(out, shown, d.0),
+        Cell::TheatreDay(_, d) => put_day(out, shown, d.0),
+        Cell::SurgeonDay(_, d) => put_day(out, shown, d.0),
+        Cell::RoomShift(_, k) => put_shift(out, shown, k.0),
+        Cell::NurseShift(_, k) => put_shift(out, shown, k.0),
+        Cell::Care(_) => Ok(()),
+    }
 }
 
 /// Appends the name of a cell.
@@ -122,13 +109,7 @@ pub fn put_cell(out: &mut Vec<u8>, shown: &Shown<'_>, cell: Cell) -> Put
     requires { IsCellOf shown.now.inst.now.draft cell }
     ensures { OnOk result (out.new.items ≡ out.old.items ++ cell_text shown.now.inst.now.draft shown.now.first cell) }
 {
-    match cell {
-        Cell::Stay(p) => put_person(out, shown.inst, p.0),
-        Cell::RoomDay(r, d) => put_room_day(out, shown, r, d),
-        Cell::TheatreDay(t, d) => put_theatre_day(out, shown, t, d),
-        Cell::SurgeonDay(s, d) => put_surgeon_day(out, shown, s, d),
-        Cell::RoomShift(r, k) => put_room_shift(out, shown, r, k),
-        Cell::NurseShift(n, k) => put_nurse_shift(out, shown, n, k),
-        Cell::Care(x) => put_person(out, shown.inst, x.0),
-    }
+    put(out, kind_of(cell))?;
+    put_owner(out, shown.inst, cell)?;
+    put_time(out, shown, cell)
 }

@@ -105,7 +105,7 @@ fn put_change_if(out: &mut Vec<u8>, both: &Compared<'_>, patient: u32) -> Put
 }
 
 // The patients whose stays differ.
-#[tactic(auto, unfolding(crate::specs::Changes::changed_list))]
+#[tactic(auto, using(crate::proofs::ListedLines::piece_steps), unfolding(crate::specs::Changes::changed_list))]
 fn put_patients(out: &mut Vec<u8>, both: &Compared<'_>) -> Put
     ensures { let shown = both.now.shown.now in OnOk result
         (out.new.items
@@ -219,7 +219,7 @@ fn put_shift_if(out: &mut Vec<u8>, both: &Compared<'_>, room: u32, shift: u32) -
 }
 
 // The shifts in which the room has another nurse.
-#[tactic(auto, unfolding(crate::specs::Changes::shift_items))]
+#[tactic(auto, using(crate::proofs::ListedLines::piece_steps), unfolding(crate::specs::Changes::shift_items))]
 fn put_shifts(out: &mut Vec<u8>, both: &Compared<'_>, room: u32) -> Put
     requires room { room < room_count both.now.shown.now.inst.now.draft }
     ensures { let shown = both.now.shown.now in OnOk result (out.new.items ≡ out.old.items
@@ -279,7 +279,7 @@ fn put_shifts_if(out: &mut Vec<u8>, both: &Compared<'_>, room: u32, count: u64) 
 }
 
 // The rooms that have another nurse in some shifts.
-#[tactic(auto, unfolding(crate::specs::Changes::changed_nurses))]
+#[tactic(auto, using(crate::proofs::Lines::put_steps), unfolding(crate::specs::Changes::changed_nurses))]
 fn put_nurses(out: &mut Vec<u8>, both: &Compared<'_>) -> Put
     ensures { let shown = both.now.shown.now in OnOk result (out.new.items ≡ out.old.items
         ++ changed_nurses shown.inst.now.draft shown.first both.now.older.now shown.plan.now) }
@@ -333,6 +333,7 @@ fn put_part(out: &mut Vec<u8>, index: usize, before: i64, after: i64) -> Put
     put_two(out, before, after)
 }
 
+#[tactic(auto, using(crate::proofs::Lines::put_steps))]
 fn put_parts(out: &mut Vec<u8>, inst: &Instance, before: &Bill, after: &Bill) -> Put
     requires before { IsWithin (10 ^ 11) before.now }
     requires after { IsWithin (10 ^ 11) after.now }

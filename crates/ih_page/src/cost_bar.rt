@@ -87,6 +87,7 @@ fn whole_of(inst: &Instance, bill: &Bill) -> u64
     bill.cost(inst.weights()).unsigned_abs()
 }
 
+#[tactic(auto, using(crate::proofs::Lines::put_steps))]
 fn put_parts(out: &mut Vec<u8>, inst: &Instance, bill: &Bill, whole: u64) -> Put
     requires { IsWithin (10 ^ 11) bill.now }
     ensures { OnOk result (out.new.items

@@ -2,7 +2,7 @@
 
 ghost use Rattle.std.specs.Prelude.{◌≡◌, ◌++◌, OnOk, option_map};
 ghost use Rattle.jiff.specs.Words.{date_parts};
-ghost use Rattle.ih_page.specs.DayHeads.{beside_if, date_of, date_text, dated_below, dated_beside, dated_if, dated_text};
+ghost use Rattle.ih_page.specs.DayHeads.{date_of, date_text, dated_between, dated_if, dated_text};
 ghost use Rattle.ih_page.specs.DayHeads.{day_behind, day_head, day_text, heads_and_days, table_head};
 
 use crate::dates::{date_after, month_name, weekday_name};
@@ -36,38 +36,25 @@ fn put_dated(out: &mut Vec<u8>, date: Date) -> Put
     put_date(out, date)
 }
 
-#[tactic(auto, unfolding(crate::specs::DayHeads::dated_below))]
-fn put_dated_below(out: &mut Vec<u8>, date: Date) -> Put
-    ensures { OnOk result (out.new.items ≡ out.old.items ++ dated_below (date_parts date)) }
+// The same between two texts.
+#[tactic(auto, unfolding(crate::specs::DayHeads::dated_between))]
+fn put_dated_between(out: &mut Vec<u8>, before: &str, date: Date, after: &str) -> Put
+    ensures { OnOk result (out.new.items
+        ≡ out.old.items ++ dated_between before.now (date_parts date) after.now) }
 {
-    put(out, "<br>")?;
-    put_dated(out, date)
-}
-
-fn put_dated_if(out: &mut Vec<u8>, date: Option<Date>) -> Put
-    ensures { OnOk result (out.new.items ≡ out.old.items ++ dated_if (option_map date_parts date)) }
-{
-    match date {
-        None => Ok(()),
-        Some(date) => put_dated_below(out, date),
-    }
-}
-
-#[tactic(auto, unfolding(crate::specs::DayHeads::dated_beside))]
-fn put_dated_beside(out: &mut Vec<u8>, date: Date) -> Put
-    ensures { OnOk result (out.new.items ≡ out.old.items ++ dated_beside (date_parts date)) }
-{
-    put(out, " (")?;
+    put(out, before)?;
     put_dated(out, date)?;
-    put(out, ")")
+    put(out, after)
 }
 
-fn put_beside_if(out: &mut Vec<u8>, date: Option<Date>) -> Put
-    ensures { OnOk result (out.new.items ≡ out.old.items ++ beside_if (option_map date_parts date)) }
+// The same, where the date is known.
+fn put_dated_if(out: &mut Vec<u8>, before: &str, date: Option<Date>, after: &str) -> Put
+    ensures { OnOk result (out.new.items
+        ≡ out.old.items ++ dated_if before.now (option_map date_parts date) after.now) }
 {
     match date {
         None => Ok(()),
-        Some(date) => put_dated_beside(out, date),
+        Some(date) => put_dated_between(out, before, date, after),
     }
 }
 
@@ -77,7 +64,7 @@ pub fn put_day_behind(out: &mut Vec<u8>, shown: &Shown<'_>, text: &str, day: u32
     ensures { OnOk result (out.new.items ≡ out.old.items ++ day_behind text.now shown.now.first day) }
 {
     put_labelled(out, text, day)?;
-    put_beside_if(out, date_of(shown, day))
+    put_dated_if(out, " (", date_of(shown, day), ")")
 }
 
 /// Appends a day behind a comma, as the next part of a line.
@@ -92,11 +79,11 @@ fn put_day_head(out: &mut Vec<u8>, shown: &Shown<'_>, tag: &str, day: u32) -> Pu
     ensures { OnOk result (out.new.items ≡ out.old.items ++ day_head shown.now.first tag.now day) }
 {
     put_labelled(out, tag, day)?;
-    put_dated_if(out, date_of(shown, day))
+    put_dated_if(out, "<br>", date_of(shown, day), "")
 }
 
 /// Appends a row of heads, of which the last are the days, each with this tag.
-#[tactic(auto, unfolding(crate::specs::DayHeads::heads_and_days))]
+#[tactic(auto, using(crate::proofs::Lines::put_steps), unfolding(crate::specs::DayHeads::heads_and_days))]
 pub fn put_heads_and_days(out: &mut Vec<u8>, shown: &Shown<'_>, heads: &str, tag: &str) -> Put
     ensures { OnOk result (out.new.items
         ≡ out.old.items ++ heads_and_days shown.now.inst.now.draft shown.now.first heads.now tag.now) }

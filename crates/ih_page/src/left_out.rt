@@ -122,7 +122,7 @@ fn nobody_if(count: u64) -> &'static str
 }
 
 /// Appends the list of the patients who are left out.
-#[tactic(auto, unfolding(crate::specs::LeftOut::left_out))]
+#[tactic(auto, using(crate::proofs::Lines::put_steps), unfolding(crate::specs::LeftOut::left_out))]
 pub fn put_left_out(out: &mut Vec<u8>, shown: &Shown<'_>) -> Put
     ensures { OnOk result
         (out.new.items ≡ out.old.items ++ left_out shown.now.inst.now.draft shown.now.first shown.now.plan.now) }

@@ -65,7 +65,7 @@ fn put_room_below(out: &mut Vec<u8>, shown: &Shown<'_>, nurse: u32, shift: u32, 
 }
 
 // The rooms that the shift gives to the nurse.
-#[tactic(auto, unfolding(crate::specs::Nursing::rooms_below))]
+#[tactic(auto, using(crate::proofs::Lines::put_steps), unfolding(crate::specs::Nursing::rooms_below))]
 fn put_rooms_below(out: &mut Vec<u8>, shown: &Shown<'_>, nurse: u32, shift: u32) -> Put
     requires { shift < shift_count shown.now.inst.now.draft }
     ensures { OnOk result (out.new.items
@@ -113,7 +113,7 @@ fn put_head(out: &mut Vec<u8>, nurse: &Nurse) -> Put
     put_number(out, nurse.skill_level as u64)
 }
 
-#[tactic(auto, unfolding(crate::specs::Nursing::nurse_row))]
+#[tactic(auto, using(crate::proofs::Lines::put_steps), unfolding(crate::specs::Nursing::nurse_row))]
 fn put_row(out: &mut Vec<u8>, shown: &Shown<'_>, nurse: u32) -> Put
     requires nurse { nurse < nurse_count shown.now.inst.now.draft }
     ensures { OnOk result (out.new.items
@@ -134,7 +134,7 @@ fn put_shift_head(out: &mut Vec<u8>, shown: &Shown<'_>, shift: u32) -> Put
 }
 
 // The names of the three columns of each day.
-#[tactic(auto, unfolding(crate::specs::Nursing::shift_heads))]
+#[tactic(auto, using(crate::proofs::Lines::put_steps), unfolding(crate::specs::Nursing::shift_heads))]
 fn put_shift_heads(out: &mut Vec<u8>, shown: &Shown<'_>) -> Put
     ensures { OnOk result (out.new.items ≡ out.old.items ++ shift_heads shown.now.inst.now.draft) }
 {
@@ -146,7 +146,7 @@ fn put_shift_heads(out: &mut Vec<u8>, shown: &Shown<'_>) -> Put
 }
 
 /// Appends the table of the nurses.
-#[tactic(auto, unfolding(crate::specs::Nursing::nurses_text))]
+#[tactic(auto, using(crate::proofs::Lines::put_steps), unfolding(crate::specs::Nursing::nurses_text))]
 pub fn put_nurses(out: &mut Vec<u8>, shown: &Shown<'_>) -> Put
     ensures { OnOk result (out.new.items
         ≡ out.old.items ++ nurses_text shown.now.inst.now.draft shown.now.first shown.now.plan.now) }

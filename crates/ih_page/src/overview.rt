@@ -93,7 +93,7 @@ fn put_room_share(out: &mut Vec<u8>, shown: &Shown<'_>, room: u32, day: u32) -> 
     )
 }
 
-#[tactic(auto, unfolding(crate::specs::Overview::room_shares))]
+#[tactic(auto, using(crate::proofs::Lines::put_steps), unfolding(crate::specs::Overview::room_shares))]
 fn put_room_shares(out: &mut Vec<u8>, shown: &Shown<'_>, room: u32) -> Put
     requires room { room < room_count shown.now.inst.now.draft }
     ensures { OnOk result
@@ -122,7 +122,7 @@ fn put_surgery_share(out: &mut Vec<u8>, shown: &Shown<'_>, resource: Resource, d
     )
 }
 
-#[tactic(auto, unfolding(crate::specs::Overview::surgery_shares))]
+#[tactic(auto, using(crate::proofs::Lines::put_steps), unfolding(crate::specs::Overview::surgery_shares))]
 fn put_surgery_shares(out: &mut Vec<u8>, shown: &Shown<'_>, resource: Resource) -> Put
     requires resource { IsResourceOf shown.now.inst.now.draft resource }
     ensures { OnOk result
@@ -171,14 +171,10 @@ fn put_if_above(
     ensures { OnOk result (out.new.items ≡ out.old.items ++ above_text inst.now.draft nurse shift load most) }
 {
     match most {
-        None => Ok(()),
-        Some(most) => {
-            if (most as u64) < load {
-                put_excess(out, inst, nurse, shift, load - most as u64)
-            } else {
-                Ok(())
-            }
+        Some(most) if (most as u64) < load => {
+            put_excess(out, inst, nurse, shift, load - most as u64)
         }
+        _ => Ok(()),
     }
 }
 
@@ -198,7 +194,7 @@ fn put_above(out: &mut Vec<u8>, shown: &Shown<'_>, shift: u32, nurse: u32) -> Pu
     )
 }
 
-#[tactic(auto, unfolding(crate::specs::Overview::above_td))]
+#[tactic(auto, using(crate::proofs::Lines::put_steps), unfolding(crate::specs::Overview::above_td))]
 fn put_above_td(out: &mut Vec<u8>, shown: &Shown<'_>, shift: u32) -> Put
     requires shift { shift < shift_count shown.now.inst.now.draft }
     ensures { OnOk result (out.new.items
@@ -211,7 +207,7 @@ fn put_above_td(out: &mut Vec<u8>, shown: &Shown<'_>, shift: u32) -> Put
     Ok(())
 }
 
-#[tactic(auto, unfolding(crate::specs::Overview::above_row))]
+#[tactic(auto, using(crate::proofs::Lines::put_steps), unfolding(crate::specs::Overview::above_row))]
 fn put_above_row(out: &mut Vec<u8>, shown: &Shown<'_>, shift_type: u32) -> Put
     requires { shift_type < 3 }
     ensures { OnOk result (out.new.items
@@ -225,7 +221,7 @@ fn put_above_row(out: &mut Vec<u8>, shown: &Shown<'_>, shift_type: u32) -> Put
     put(out, "\n")
 }
 
-#[tactic(auto, unfolding(crate::specs::Overview::rooms_overview))]
+#[tactic(auto, using(crate::proofs::Lines::put_steps), unfolding(crate::specs::Overview::rooms_overview))]
 fn put_rooms_overview(out: &mut Vec<u8>, shown: &Shown<'_>) -> Put
     ensures { OnOk result
         (out.new.items ≡ out.old.items ++ rooms_overview shown.now.inst.now.draft shown.now.first shown.now.plan.now) }
@@ -241,7 +237,7 @@ fn put_rooms_overview(out: &mut Vec<u8>, shown: &Shown<'_>) -> Put
     Ok(())
 }
 
-#[tactic(auto, unfolding(crate::specs::Overview::theatres_overview))]
+#[tactic(auto, using(crate::proofs::Lines::put_steps), unfolding(crate::specs::Overview::theatres_overview))]
 fn put_theatres_overview(out: &mut Vec<u8>, shown: &Shown<'_>) -> Put
     ensures { OnOk result
         (out.new.items
@@ -258,7 +254,7 @@ fn put_theatres_overview(out: &mut Vec<u8>, shown: &Shown<'_>) -> Put
     Ok(())
 }
 
-#[tactic(auto, unfolding(crate::specs::Overview::nurses_overview))]
+#[tactic(auto, using(crate::proofs::Lines::put_steps), unfolding(crate::specs::Overview::nurses_overview))]
 fn put_nurses_overview(out: &mut Vec<u8>, shown: &Shown<'_>) -> Put
     ensures { OnOk result
         (out.new.items ≡ out.old.items ++ nurses_overview shown.now.inst.now.draft shown.now.first shown.now.plan.now) }

@@ -52,7 +52,7 @@ fn put_item(out: &mut Vec<u8>, shown: &Shown<'_>, patient: u32) -> Put
 }
 
 /// Appends the index: each patient's room, day and theatre, and a link to where it stands.
-#[tactic(auto, unfolding(crate::specs::PatientIndex::patient_index))]
+#[tactic(auto, using(crate::proofs::Lines::put_steps), unfolding(crate::specs::PatientIndex::patient_index))]
 pub fn put_patient_index(out: &mut Vec<u8>, shown: &Shown<'_>) -> Put
     ensures { OnOk result (out.new.items
         ≡ out.old.items ++ patient_index shown.now.inst.now.draft shown.now.first shown.now.plan.now) }

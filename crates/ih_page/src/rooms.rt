@@ -277,6 +277,7 @@ fn put_care(out: &mut Vec<u8>, shown: &Shown<'_>, room: u32, shift: u32) -> Put
     put_nurse_in(out, shown.inst, shown.plan, room, shift)
 }
 
+#[tactic(auto, using(crate::proofs::Lines::put_steps))]
 fn put_shift(out: &mut Vec<u8>, shown: &Shown<'_>, room: u32, shift_type: u32) -> Put
     requires room { room < room_count shown.now.inst.now.draft }
     requires shift { shift_type < 3 }
@@ -314,7 +315,7 @@ fn put_room_head(out: &mut Vec<u8>, shown: &Shown<'_>, room_no: u32, room: &Room
     )
 }
 
-#[tactic(auto, unfolding(crate::specs::Rooms::count_row))]
+#[tactic(auto, using(crate::proofs::Lines::put_steps), unfolding(crate::specs::Rooms::count_row))]
 fn put_count_row(out: &mut Vec<u8>, shown: &Shown<'_>, room: u32) -> Put
     requires room { room < room_count shown.now.inst.now.draft }
     ensures { OnOk result (out.new.items
@@ -328,6 +329,7 @@ fn put_count_row(out: &mut Vec<u8>, shown: &Shown<'_>, room: u32) -> Put
 }
 
 // The patients whose stays begin in the room on the day.
+#[tactic(auto, using(crate::proofs::Lines::put_steps))]
 fn put_admitted(out: &mut Vec<u8>, shown: &Shown<'_>, room: u32, day: u32) -> Put
     ensures { OnOk result
         (out.new.items ≡ out.old.items ++ admitted_rows shown.now.inst.now.draft shown.now.plan.now room day) }
@@ -338,7 +340,7 @@ fn put_admitted(out: &mut Vec<u8>, shown: &Shown<'_>, room: u32, day: u32) -> Pu
     Ok(())
 }
 
-#[tactic(auto, unfolding(crate::specs::Rooms::person_rows))]
+#[tactic(auto, using(crate::proofs::Lines::put_steps), unfolding(crate::specs::Rooms::person_rows))]
 fn put_persons(out: &mut Vec<u8>, shown: &Shown<'_>, room: u32) -> Put
     ensures { OnOk result (out.new.items
         ≡ out.old.items ++ person_rows shown.now.inst.now.draft shown.now.plan.now room) }
@@ -352,7 +354,7 @@ fn put_persons(out: &mut Vec<u8>, shown: &Shown<'_>, room: u32) -> Put
     Ok(())
 }
 
-#[tactic(auto, unfolding(crate::specs::Rooms::room_text))]
+#[tactic(auto, using(crate::proofs::Lines::put_steps), unfolding(crate::specs::Rooms::room_text))]
 fn put_room(out: &mut Vec<u8>, shown: &Shown<'_>, room: u32) -> Put
     requires room { room < room_count shown.now.inst.now.draft }
     ensures { OnOk result (out.new.items
@@ -377,7 +379,7 @@ thin line: delay since release; ! above the capacity; - no nurse</p>\n"
 }
 
 /// Appends the tables of the rooms.
-#[tactic(auto, unfolding(crate::specs::Rooms::rooms_text))]
+#[tactic(auto, using(crate::proofs::Lines::put_steps), unfolding(crate::specs::Rooms::rooms_text))]
 pub fn put_rooms(out: &mut Vec<u8>, shown: &Shown<'_>) -> Put
     ensures { OnOk result (out.new.items
         ≡ out.old.items ++ rooms_text shown.now.inst.now.draft shown.now.first shown.now.plan.now) }

@@ -190,7 +190,7 @@ fn put_cost(out: &mut Vec<u8>, index: usize, amount: i64, weight: i64) -> Put
     put_weighed(out, amount, weight)
 }
 
-#[tactic(auto, unfolding(crate::specs::Summary::rule_rows))]
+#[tactic(auto, using(crate::proofs::Lines::put_steps), unfolding(crate::specs::Summary::rule_rows))]
 fn put_rules(out: &mut Vec<u8>, bill: &Bill) -> Put
     ensures { OnOk result (out.new.items ≡ out.old.items ++ rule_rows bill.now) }
 {
@@ -200,7 +200,7 @@ fn put_rules(out: &mut Vec<u8>, bill: &Bill) -> Put
     Ok(())
 }
 
-#[tactic(auto, unfolding(crate::specs::Summary::cost_rows))]
+#[tactic(auto, using(crate::proofs::Lines::put_steps), unfolding(crate::specs::Summary::cost_rows))]
 fn put_costs(out: &mut Vec<u8>, inst: &Instance, bill: &Bill) -> Put
     requires { IsWithin (10 ^ 11) bill.now }
     ensures { OnOk result (out.new.items ≡ out.old.items ++ cost_rows inst.now.draft.weights bill.now) }

@@ -210,6 +210,7 @@ fn put_operation(
     }
 }
 
+#[tactic(auto, using(crate::proofs::Lines::put_steps))]
 fn put_operations(out: &mut Vec<u8>, shown: &Shown<'_>, resource: Resource, day: u32) -> Put
     ensures { OnOk result (out.new.items ≡ out.old.items ++ lines_below (patient_count shown.now.inst.now.draft)
         (operation shown.now.inst.now.draft shown.now.plan.now resource day)) }
@@ -220,18 +221,12 @@ fn put_operations(out: &mut Vec<u8>, shown: &Shown<'_>, resource: Resource, day:
     Ok(())
 }
 
-fn put_surgery(
-    out: &mut Vec<u8>,
-    shown: &Shown<'_>,
-    resource: Resource,
-    day: u32,
-    count: u64,
-) -> Put
+fn put_surgery(out: &mut Vec<u8>, shown: &Shown<'_>, resource: Resource, day: u32) -> Put
     requires { IsResourceOf shown.now.inst.now.draft resource }
     ensures { OnOk result
-        (out.new.items ≡ out.old.items ++ surgery_of shown.now.inst.now.draft shown.now.plan.now resource day count) }
+        (out.new.items ≡ out.old.items ++ surgery_of shown.now.inst.now.draft shown.now.plan.now resource day) }
 {
-    if count == 0 {
+    if surgery_count(shown, resource, day) == 0 {
         return put(out, ">");
     }
     put_minutes(
@@ -249,16 +244,10 @@ fn put_td(out: &mut Vec<u8>, shown: &Shown<'_>, resource: Resource, day: u32) ->
         (out.new.items ≡ out.old.items ++ surgery_td shown.now.inst.now.draft shown.now.plan.now resource day) }
 {
     put_td_at(out, letter_of(resource), number_of(resource), day)?;
-    put_surgery(
-        out,
-        shown,
-        resource,
-        day,
-        surgery_count(shown, resource, day),
-    )
+    put_surgery(out, shown, resource, day)
 }
 
-#[tactic(auto, unfolding(crate::specs::Surgery::surgery_row))]
+#[tactic(auto, using(crate::proofs::Lines::put_steps), unfolding(crate::specs::Surgery::surgery_row))]
 fn put_row(out: &mut Vec<u8>, shown: &Shown<'_>, resource: Resource) -> Put
     requires resource { IsResourceOf shown.now.inst.now.draft resource }
     ensures { OnOk result (out.new.items
@@ -284,7 +273,7 @@ fn heads_of(kind: ResourceKind) -> &'static str
 }
 
 /// Appends the table of the theatres, or of the surgeons.
-#[tactic(auto, unfolding(crate::specs::Surgery::surgery_text))]
+#[tactic(auto, using(crate::proofs::Lines::put_steps), unfolding(crate::specs::Surgery::surgery_text))]
 pub fn put_surgery_of(out: &mut Vec<u8>, shown: &Shown<'_>, kind: ResourceKind) -> Put
     ensures { OnOk result
         (out.new.items

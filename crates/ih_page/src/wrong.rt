@@ -163,6 +163,7 @@ fn put_line_list(alloc: Global, out: &mut Vec<u8>, priced: &Priced<'_>, line: Li
 }
 
 // The lists of the rules, then those of the costs.
+#[tactic(auto, using(crate::proofs::Lines::put_steps))]
 fn put_line_lists(alloc: Global, out: &mut Vec<u8>, priced: &Priced<'_>) -> Put
     ensures { let shown = priced.now.shown.now in OnOk result
         (out.new.items ≡ out.old.items ++ line_lists shown.inst.now.draft shown.first shown.plan.now) }

@@ -1,15 +1,8 @@
 use Rattle.std.proofs.Common.{◌∙◌, ap, ℕ, List, ◌++◌}
 use Rattle.std.proofs.lemmas.Result.{on_ok_weaker}
 use Rattle.ih_page.specs.LeftOut.{left_out, nobody_if}
-use Rattle.ih_page.proofs.Joins.{joins4}
-use Rattle.ih_page.proofs.Lines.{no-lines, some-more, all-lines}
+use Rattle.ih_page.proofs.Joins.{joins4, all-lines}
 use Rattle.ih_page.proofs.left_out.put_left_out.Goals as goal
-
-pub loop-p-init : goal.loop-p-init
-loop-p-init c = no-lines _ _
-
-pub loop-p-preserved : goal.loop-p-preserved
-loop-p-preserved c = some-more _ _ _ _ _ c.loop-p.invariant c.in_ok-put_item_of.ensures
 
 pub returns : goal.returns
 unfolding left_out

@@ -1,14 +1,7 @@
 use Rattle.std.proofs.lemmas.Result.{on_ok_weaker}
 use Rattle.ih_page.specs.Nursing.{nurses_text}
-use Rattle.ih_page.proofs.Joins.{joins4}
-use Rattle.ih_page.proofs.Lines.{no-lines, some-more, all-lines}
+use Rattle.ih_page.proofs.Joins.{joins4, all-lines}
 use Rattle.ih_page.proofs.nursing.put_nurses.Goals as goal
-
-pub loop-n-init : goal.loop-n-init
-loop-n-init c = no-lines _ _
-
-pub loop-n-preserved : goal.loop-n-preserved
-loop-n-preserved c = some-more _ _ _ _ _ c.loop-n.invariant c.in_ok-put_row.ensures
 
 pub returns : goal.returns
 unfolding nurses_text

@@ -1,14 +1,7 @@
 use Rattle.std.proofs.lemmas.Result.{on_ok_weaker}
 use Rattle.ih_page.specs.PatientIndex.{patient_index}
-use Rattle.ih_page.proofs.Joins.{joins3}
-use Rattle.ih_page.proofs.Lines.{no-lines, some-more, all-lines}
+use Rattle.ih_page.proofs.Joins.{joins3, all-lines}
 use Rattle.ih_page.proofs.patient_index.put_patient_index.Goals as goal
-
-pub loop-p-init : goal.loop-p-init
-loop-p-init c = no-lines _ _
-
-pub loop-p-preserved : goal.loop-p-preserved
-loop-p-preserved c = some-more _ _ _ _ _ c.loop-p.invariant c.in_ok-put_item.ensures
 
 pub returns : goal.returns
 unfolding patient_index

@@ -1,14 +1,7 @@
 use Rattle.std.proofs.lemmas.Result.{on_ok_weaker}
 use Rattle.ih_page.specs.Rooms.{count_row}
-use Rattle.ih_page.proofs.Joins.{joins3}
-use Rattle.ih_page.proofs.Lines.{no-lines, some-more, all-lines}
+use Rattle.ih_page.proofs.Joins.{joins3, all-lines}
 use Rattle.ih_page.proofs.rooms.put_count_row.Goals as goal
-
-pub loop-d-init : goal.loop-d-init
-loop-d-init c = no-lines _ _
-
-pub loop-d-preserved : goal.loop-d-preserved
-loop-d-preserved c = some-more _ _ _ _ _ c.loop-d.invariant c.in_ok-put_count.ensures
 
 pub returns : goal.returns
 unfolding count_row

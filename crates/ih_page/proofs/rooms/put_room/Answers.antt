@@ -3,15 +3,8 @@ use Rattle.std.specs.Option.{option_map_or}
 use Rattle.std.proofs.lemmas.Result.{on_ok_weaker}
 use Rattle.ih_tables.specs.declared.drafts.Room.{Room}
 use Rattle.ih_page.specs.Rooms.{room_head, room_text}
-use Rattle.ih_page.proofs.Joins.{joins5}
-use Rattle.ih_page.proofs.Lines.{no-lines, some-more, all-lines}
+use Rattle.ih_page.proofs.Joins.{joins5, all-lines}
 use Rattle.ih_page.proofs.rooms.put_room.Goals as goal
-
-pub loop-j-init : goal.loop-j-init
-loop-j-init c = no-lines _ _
-
-pub loop-j-preserved : goal.loop-j-preserved
-loop-j-preserved c = some-more _ _ _ _ _ c.loop-j.invariant c.in_ok-put_shift.ensures
 
 pub returns : goal.returns
 unfolding room_text

@@ -1,14 +1,7 @@
 use Rattle.std.proofs.Common.{◌∙◌, ap, ℕ, List, ◌++◌}
 use Rattle.ih_page.specs.Rooms.{rooms_text}
-use Rattle.ih_page.proofs.Joins.{joins3}
-use Rattle.ih_page.proofs.Lines.{no-lines, some-more, all-lines}
+use Rattle.ih_page.proofs.Joins.{joins3, all-lines}
 use Rattle.ih_page.proofs.rooms.put_rooms.Goals as goal
-
-pub loop-r-init : goal.loop-r-init
-loop-r-init c = no-lines _ _
-
-pub loop-r-preserved : goal.loop-r-preserved
-loop-r-preserved c = some-more _ _ _ _ _ c.loop-r.invariant c.in_ok-put_room.ensures
 
 pub returns : goal.returns
 unfolding rooms_text

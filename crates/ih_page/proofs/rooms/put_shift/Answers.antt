@@ -1,13 +1,6 @@
 use Rattle.std.proofs.lemmas.Result.{on_ok_weaker}
-use Rattle.ih_page.proofs.Joins.{joins5}
-use Rattle.ih_page.proofs.Lines.{no-lines, some-more, all-lines}
+use Rattle.ih_page.proofs.Joins.{joins5, all-lines}
 use Rattle.ih_page.proofs.rooms.put_shift.Goals as goal
-
-pub loop-d-init : goal.loop-d-init
-loop-d-init c = no-lines _ _
-
-pub loop-d-preserved : goal.loop-d-preserved
-loop-d-preserved c = some-more _ _ _ _ _ c.loop-d.invariant c.in_ok-put_care.ensures
 
 pub returns : goal.returns
 returns c =

@@ -3,17 +3,8 @@ use Rattle.std.proofs.lemmas.Result.{on_ok_weaker}
 use Rattle.ih_validate.specs.declared.surgery.Resource.{Resource}
 use Rattle.ih_page.specs.DayHeads.{table_head}
 use Rattle.ih_page.specs.Surgery.{surgery_row, surgery_text}
-use Rattle.ih_page.proofs.Joins.{joins3}
-use Rattle.ih_page.proofs.Lines.{no-lines, some-more, all-lines}
+use Rattle.ih_page.proofs.Joins.{joins3, all-lines}
 use Rattle.ih_page.proofs.surgery.put_surgery_of.Goals as goal
-
-pub loop-i-init : goal.loop-i-init
-loop-i-init c = no-lines _ _
-
-pub loop-i-preserved : goal.loop-i-preserved
-loop-i-preserved c =
-    let row = λ (w : Resource). c.loop-i.out.items ++ surgery_row c.args.shown.now.inst.now.draft c.args.shown.now.plan.now w in
-    some-more _ _ _ _ _ c.loop-i.invariant (c.in_ok-put_row.ensures ∙ ap row c.one_of.ensures)
 
 pub returns : goal.returns
 unfolding surgery_text
