@@ -1,4 +1,3 @@
-pub mod CommandNames
 mod Examples
 mod Unlawful
 mod PlainValues

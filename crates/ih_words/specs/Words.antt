@@ -1,5 +1,5 @@
 -- Which call the words of a command line name. The words are those after the program's name.
-use Rattle.std.specs.Prelude.{ℕ, ◌≡◌, ◌≢◌, List, Option, Some, None, codes, if◌then◌else◌, option_and_then, option_map, slice_get}
+use Rattle.std.specs.Prelude.{ℕ, ◌≡◌, ◌≢◌, List, Option, Some, None, codes, if◌then◌else◌, option_map}
 use Rattle.std.specs.Str.{bytes_eq}
 use Rattle.clap.specs.Words.{Text}
 use Rattle.ih_journal.specs.Settings.{IsLawful}
@@ -8,7 +8,7 @@ use Rattle.ih_words.specs.Chain.{ChainCall, IsLawfulChain, chain_app, chain_call
 use Rattle.ih_words.specs.Check.{CheckCall, check_app, check_call, lawful_check}
 use Rattle.ih_words.specs.Demo.{demo_app, lawful_demo}
 use Rattle.ih_words.specs.Generate.{GenCall, gen_app, gen_call, lawful_gen}
-use Rattle.ih_arguments.specs.Matches.{call_by}
+use Rattle.ih_arguments.specs.Matches.{by_first_word, call_by}
 use Rattle.ih_words.specs.Plain.{IsWithin}
 use Rattle.ih_words.specs.Replay.{ReplayCall, lawful_replay, replay_app, replay_call}
 use Rattle.ih_words.specs.Rounds.{IsLawfulRounds, RoundsCall, lawful_rounds, rounds_app, rounds_call}
@@ -75,7 +75,7 @@ call_named name words = if bytes_eq name (codes "solve") then option_map solve (
 
 -- the call that the words name, where they are lawful: the first word is the command's name
 unfoldable pub call_of : List Text → Option Call
-call_of words = option_and_then (λ name. call_named name words) (slice_get words 0)
+call_of words = by_first_word call_named words
 
 -- some words name the call
 abbrev pub IsNamed : Call → Type 0

@@ -1,9 +1,8 @@
 //! The options that every search needs, and the reading of words that are lawful or not.
-ghost use Rattle.std.specs.Prelude.{◌≡◌, ◌≤◌, ℕ, IfErr, IfOk, true, false, map, string_bytes};
-ghost use Rattle.clap.specs.Words.{App, Rule, app_of, found_of, is_simple_and_free, matches_of, rows_of};
-ghost use Rattle.ih_arguments.specs.{Arguments.IsChanged};
-ghost use Rattle.ih_arguments.specs.Matches.{HasNumber, HasText, IsNumberIfGiven, has_no_fault};
-ghost use Rattle.ih_arguments.specs.Rules.{Requires, RequiresNumber, TakesNumber, has_independent_rules};
+ghost use Rattle.std.specs.Prelude.{◌≡◌, ◌≤◌, IfErr, IfOk, true, false, map, string_bytes};
+ghost use Rattle.clap.specs.Words.{App, app_of, found_of, is_simple_and_free, rows_of};
+ghost use Rattle.ih_arguments.specs.{Arguments.IsChanged, Matches.has_no_fault};
+ghost use Rattle.ih_arguments.specs.Rules.{AreMatches, has_independent_rules};
 ghost use Rattle.ih_journal.specs.Settings.{IsLawful, most_entries};
 ghost use Rattle.ih_words.specs.SearchOptions.{HasOptions, options_in, with_options};
 
@@ -24,16 +23,7 @@ pub(crate) fn matches_in<'a>(
     requires described { IfOk description (λ d. app_of d ≡ app) }
     requires simple { is_simple_and_free app ≡ true }
     requires independent { has_independent_rules app ≡ true }
-    ensures no_fault { IfOk result (λ m. has_no_fault app (map string_bytes words.entry.now) ≡ true) }
-    ensures rows { IfOk result (λ m. rows_of (found_of m) ≡ matches_of app (map string_bytes words.entry.now)) }
-    ensures texts { IfOk result
-        (λ m. (k : ℕ) (rule : Rule) → Requires app k rule → HasText rule.id (rows_of (found_of m))) }
-    ensures numbers { IfOk result
-        (λ m. (k : ℕ) (rule : Rule) (low high : ℕ) → RequiresNumber app k rule low high
-        → HasNumber low high rule.id (rows_of (found_of m))) }
-    ensures optional { IfOk result
-        (λ m. (k : ℕ) (rule : Rule) (low high : ℕ) → TakesNumber app k rule low high
-        → IsNumberIfGiven low high rule.id (rows_of (found_of m))) }
+    ensures matched { IfOk result (AreMatches app (map string_bytes words.entry.now)) }
     ensures unlawful { IfErr result
         (λ e. e ≡ WordsError.Unlawful → has_no_fault app (map string_bytes words.entry.now) ≡ false) }
 {

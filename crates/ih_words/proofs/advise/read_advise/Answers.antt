@@ -14,7 +14,7 @@ matches_in-requires c = (c.advise_description.ensures, (refl, refl))
 pub lawful_advise-requires : goal.lawful_advise-requires
 unfolding advise_app
 lawful_advise-requires c = record {
-  files = has_files c.in_ok-matches.ensures.texts (requires_name refl) (requires_name refl);
-  hard = c.in_ok-matches.ensures.numbers 2 (numbered_option (codes "hard") 0 MAX_HARD) 0 MAX_HARD (requires_number refl);
-  workers = c.in_ok-matches.ensures.numbers 3 (numbered_option (codes "workers") 1 MAX_WORKERS) 1 MAX_WORKERS (requires_number refl);
+  files = has_files c.in_ok-matches.ensures.matched.texts (requires_name refl) (requires_name refl);
+  hard = c.in_ok-matches.ensures.matched.numbers 2 (numbered_option (codes "hard") 0 MAX_HARD) 0 MAX_HARD (requires_number refl);
+  workers = c.in_ok-matches.ensures.matched.numbers 3 (numbered_option (codes "workers") 1 MAX_WORKERS) 1 MAX_WORKERS (requires_number refl);
 }

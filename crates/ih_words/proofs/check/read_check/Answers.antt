@@ -11,4 +11,4 @@ matches_in-requires c = (c.files_description.ensures, (refl, refl))
 
 pub lawful_check-requires : goal.lawful_check-requires
 unfolding check_app
-lawful_check-requires c = has_files c.in_ok-matches.ensures.texts (requires_name refl) (requires_name refl)
+lawful_check-requires c = has_files c.in_ok-matches.ensures.matched.texts (requires_name refl) (requires_name refl)

@@ -13,4 +13,4 @@ matches_in-requires c = (c.demo_description.ensures, (refl, refl))
 pub u64_of-requires : goal.u64_of-requires
 unfolding demo_app
 u64_of-requires c =
-    c.in_ok-matches.ensures.numbers 0 (named_number (codes "NUMBER")) 0 18446744073709551615 (requires_named_number refl)
+    c.in_ok-matches.ensures.matched.numbers 0 (named_number (codes "NUMBER")) 0 18446744073709551615 (requires_named_number refl)

@@ -13,9 +13,9 @@ matches_in-requires c = (c.gen_description.ensures, (refl, refl))
 pub gen_in-requires-clause-number : goal.gen_in-requires-clause-number
 unfolding gen_app
 gen_in-requires-clause-number c =
-    c.in_ok-matches.ensures.numbers 0 (named_number (codes "NUMBER")) 0 18446744073709551615 (requires_named_number refl)
+    c.in_ok-matches.ensures.matched.numbers 0 (named_number (codes "NUMBER")) 0 18446744073709551615 (requires_named_number refl)
 
 pub gen_in-requires-clause-out : goal.gen_in-requires-clause-out
 unfolding gen_app
 gen_in-requires-clause-out c =
-    c.in_ok-matches.ensures.texts 1 (named (codes "OUT")) (requires_name refl)
+    c.in_ok-matches.ensures.matched.texts 1 (named (codes "OUT")) (requires_name refl)

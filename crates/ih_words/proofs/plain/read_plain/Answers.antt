@@ -19,11 +19,11 @@ matches_in-requires c = let same = c.in_ok-command.ensures in
 pub lawful_plain-requires-clause-search : goal.lawful_plain-requires-clause-search
 lawful_plain-requires-clause-search c =
     let same = c.in_ok-command.ensures in
-    has_plain c.args.name.now c.args.id.now c.args.high (rw same at c.in_ok-matches.ensures.texts) (rw same at c.in_ok-matches.ensures.numbers)
+    has_plain c.args.name.now c.args.id.now c.args.high (rw same at c.in_ok-matches.ensures.matched.texts) (rw same at c.in_ok-matches.ensures.matched.numbers)
 
 pub lawful_plain-requires-clause-number : goal.lawful_plain-requires-clause-number
 lawful_plain-requires-clause-number c =
-    let has = has_plain_number c.args.name.now c.args.id.now c.args.high _ (rw c.in_ok-command.ensures at c.in_ok-matches.ensures.numbers) in
+    let has = has_plain_number c.args.name.now c.args.id.now c.args.high _ (rw c.in_ok-command.ensures at c.in_ok-matches.ensures.matched.numbers) in
     let few = c.ranges.high.fits in
     (has.0, has.1, (has.2.0, has.2.1, has.2.2, omega (arith, has.2.3, few)))
 
@@ -48,10 +48,10 @@ returns-clause-read c =
     let id = c.args.id.now in
     let high = c.args.high in
     let rows : List Row = rows_of (found_of c.in_ok-matches.matches) in
-    let numbers = rw same at c.in_ok-matches.ensures.numbers in
+    let numbers = rw same at c.in_ok-matches.ensures.matched.numbers in
     let within = lawful_plain_to-within high id rows (in_range c.args.name.now id high rows numbers) in
     let asked = called (app_of c.in_ok-command.command) (plain_app c.args.name.now id high) (map string_bytes c.args.words.now) rows (lawful_plain_to high id)
-    same c.in_ok-matches.ensures.no_fault c.in_ok-matches.ensures.rows in
+    same c.in_ok-matches.ensures.matched.no_fault c.in_ok-matches.ensures.matched.rows in
     rw c.ok_or.ensures.value (answered plain_call _ c.lawful_plain.result (c.lawful_plain.ensures.value ∙ (sym within ∙ asked)))
 
 -- a search and a number that is known to be from 1 to `high`, where there are any
@@ -67,6 +67,6 @@ with_number None n high is range plain few = tt
 
 pub returns-clause-lawful : goal.returns-clause-lawful
 returns-clause-lawful c =
-    let range = in_range c.args.name.now c.args.id.now c.args.high _ (rw c.in_ok-command.ensures at c.in_ok-matches.ensures.numbers) in
+    let range = in_range c.args.name.now c.args.id.now c.args.high _ (rw c.in_ok-command.ensures at c.in_ok-matches.ensures.matched.numbers) in
     rw c.ok_or.ensures.value
     (with_number c.lawful_plain.result _ c.args.high c.lawful_plain.ensures.number range c.lawful_plain.ensures.lawful c.lawful_plain.ensures.few)

@@ -16,13 +16,13 @@ matches_in-requires c = (refl, (ap is_simple_and_free c.in_ok-command.ensures 鈭
 pub lawful_replay-requires-clause-names : goal.lawful_replay-requires-clause-names
 unfolding replay_app
 lawful_replay-requires-clause-names c = let same = sym c.in_ok-command.ensures in record {
-  first = c.in_ok-matches.ensures.texts 0 (named (codes "INSTANCE")) (subst (位 (a : App). Requires a 0 (named (codes "INSTANCE"))) same (requires_name refl));
-  second = c.in_ok-matches.ensures.texts 1 (named (codes "JOURNAL")) (subst (位 (a : App). Requires a 1 (named (codes "JOURNAL"))) same (requires_name refl));
-  third = c.in_ok-matches.ensures.texts 2 (named (codes "OUT")) (subst (位 (a : App). Requires a 2 (named (codes "OUT"))) same (requires_name refl));
+  first = c.in_ok-matches.ensures.matched.texts 0 (named (codes "INSTANCE")) (subst (位 (a : App). Requires a 0 (named (codes "INSTANCE"))) same (requires_name refl));
+  second = c.in_ok-matches.ensures.matched.texts 1 (named (codes "JOURNAL")) (subst (位 (a : App). Requires a 1 (named (codes "JOURNAL"))) same (requires_name refl));
+  third = c.in_ok-matches.ensures.matched.texts 2 (named (codes "OUT")) (subst (位 (a : App). Requires a 2 (named (codes "OUT"))) same (requires_name refl));
 }
 
 pub lawful_replay-requires-clause-freeze : goal.lawful_replay-requires-clause-freeze
 unfolding replay_app
 lawful_replay-requires-clause-freeze c =
-    c.in_ok-matches.ensures.optional 4 (optional_number (codes "freeze") MAX_FREEZE) 0 MAX_FREEZE
+    c.in_ok-matches.ensures.matched.optional 4 (optional_number (codes "freeze") MAX_FREEZE) 0 MAX_FREEZE
     (subst (位 (a : App). TakesNumber a 4 (optional_number (codes "freeze") MAX_FREEZE) 0 MAX_FREEZE) (sym c.in_ok-command.ensures) (takes_number refl))

@@ -16,27 +16,27 @@ matches_in-requires c = (c.solve_description.ensures, (refl, refl))
 pub lawful_solve-requires-clause-names : goal.lawful_solve-requires-clause-names
 unfolding solve_app
 lawful_solve-requires-clause-names c = record {
-  first = c.in_ok-matches.ensures.texts 0 (named (codes "INSTANCE")) (requires_name refl);
-  second = c.in_ok-matches.ensures.texts 1 (named (codes "OUT")) (requires_name refl);
-  third = c.in_ok-matches.ensures.texts 2 (named (codes "JOURNAL")) (requires_name refl);
+  first = c.in_ok-matches.ensures.matched.texts 0 (named (codes "INSTANCE")) (requires_name refl);
+  second = c.in_ok-matches.ensures.matched.texts 1 (named (codes "OUT")) (requires_name refl);
+  third = c.in_ok-matches.ensures.matched.texts 2 (named (codes "JOURNAL")) (requires_name refl);
 }
 
 pub lawful_solve-requires-clause-options : goal.lawful_solve-requires-clause-options
 unfolding solve_app
 lawful_solve-requires-clause-options c = record {
-  seed = c.in_ok-matches.ensures.numbers 3 seed_option 0 18446744073709551615 (requires_number refl);
-  workers = c.in_ok-matches.ensures.numbers 4 (numbered_option (codes "workers") 1 MAX_WORKERS) 1 MAX_WORKERS (requires_number refl);
-  moves = c.in_ok-matches.ensures.numbers 5 (numbered_option (codes "moves") 0 MAX_MOVES) 0 MAX_MOVES (requires_number refl);
-  heat = c.in_ok-matches.ensures.numbers 6 (numbered_option (codes "heat") 0 MAX_HEAT) 0 MAX_HEAT (requires_number refl);
-  hard = c.in_ok-matches.ensures.numbers 7 (numbered_option (codes "hard") 0 MAX_HARD) 0 MAX_HARD (requires_number refl);
+  seed = c.in_ok-matches.ensures.matched.numbers 3 seed_option 0 18446744073709551615 (requires_number refl);
+  workers = c.in_ok-matches.ensures.matched.numbers 4 (numbered_option (codes "workers") 1 MAX_WORKERS) 1 MAX_WORKERS (requires_number refl);
+  moves = c.in_ok-matches.ensures.matched.numbers 5 (numbered_option (codes "moves") 0 MAX_MOVES) 0 MAX_MOVES (requires_number refl);
+  heat = c.in_ok-matches.ensures.matched.numbers 6 (numbered_option (codes "heat") 0 MAX_HEAT) 0 MAX_HEAT (requires_number refl);
+  hard = c.in_ok-matches.ensures.matched.numbers 7 (numbered_option (codes "hard") 0 MAX_HARD) 0 MAX_HARD (requires_number refl);
 }
 
 pub lawful_solve-requires-clause-retries : goal.lawful_solve-requires-clause-retries
 unfolding solve_app
 lawful_solve-requires-clause-retries c =
-    c.in_ok-matches.ensures.optional 8 (optional_number (codes "retries") MAX_RETRIES) 0 MAX_RETRIES (takes_number refl)
+    c.in_ok-matches.ensures.matched.optional 8 (optional_number (codes "retries") MAX_RETRIES) 0 MAX_RETRIES (takes_number refl)
 
 pub lawful_solve-requires-clause-freeze : goal.lawful_solve-requires-clause-freeze
 unfolding solve_app
 lawful_solve-requires-clause-freeze c =
-    c.in_ok-matches.ensures.optional 10 (optional_number (codes "freeze") MAX_FREEZE) 0 MAX_FREEZE (takes_number refl)
+    c.in_ok-matches.ensures.matched.optional 10 (optional_number (codes "freeze") MAX_FREEZE) 0 MAX_FREEZE (takes_number refl)
