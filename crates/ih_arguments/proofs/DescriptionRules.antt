@@ -1,11 +1,12 @@
 -- The rules of a command's description: what an argument adds to them, and what the rule at a place requires.
-use Rattle.std.proofs.Common.{◌≡◌, ◌∙◌, ap₂, ℕ, [], Result, Ok, Err, Some, false, refl, List, codes}
+use Rattle.std.proofs.Common.{◌≡◌, ◌∙◌, ap, ap₂, ℕ, [], Result, Ok, Err, Some, false, true, refl, List, codes}
 use Rattle.std.specs.declared.alloc.AllocError.{AllocError}
 use Rattle.std.specs.Prelude.{slice_get}
 use Rattle.clap.specs.Built.{AddsArg}
-use Rattle.clap.specs.Words.{App, Row, Rule, Text, app_of, new_app, rule_of, with_rule}
+use Rattle.clap.specs.Words.{AddsSubcommand, App, Row, Rule, Text, app_of, new_app, rule_of, with_rule, with_subcommand}
 use Rattle.clap.specs.declared.builder.arg.Arg.{Arg}
 use Rattle.clap.specs.declared.builder.command.Command.{Command}
+use Rattle.clap.proofs.SimpleLemmas.{plain_fields}
 use Rattle.ih_arguments.specs.Arguments.{named, named_number, numbered_option, optional_between, optional_number}
 use Rattle.ih_arguments.specs.Matches.{HasFiles, HasText}
 use Rattle.ih_arguments.specs.Rules.{Requires, RequiresNumber, TakesNumber}
@@ -19,6 +20,13 @@ app_in (Err _) = new_app []
 pub adds_rule : {old new : Command} {arg : Arg} {app : App} {rule : Rule} → app_of old ≡ app → AddsArg old arg new → arg.global ≡ false → rule_of arg ≡ rule
     → app_of new ≡ with_rule app rule
 adds_rule before added local rule = added.shape local ∙ ap₂ with_rule before rule
+
+-- a plain command is added
+pub adds_command : {old sub new : Command} {above below : App} → app_of old ≡ above → app_of sub ≡ below → below.top.is_plain ≡ true
+    → AddsSubcommand old sub new → app_of new ≡ with_subcommand above below.top
+adds_command {old} {sub} {new} first second plain adds =
+    adds.shape (plain_fields sub (ap (λ (a : App). a.top.is_plain) second ∙ plain)).globals
+    ∙ ap₂ with_subcommand first (ap (λ (a : App). a.top) second)
 
 pub requires_name : {app : App} {k : ℕ} {id : Text} → slice_get app.top.rules k ≡ Some (named id)
     → Requires app k (named id)

@@ -6,3 +6,4 @@ pub mod FirstWords
 pub mod Getters
 mod GivenValues
 mod RequiredValues
+pub mod WordsRead

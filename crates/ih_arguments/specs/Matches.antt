@@ -1,5 +1,5 @@
 -- What `clap` reads of the words of a command, and the values that it gives to the arguments, by their ids.
-use Rattle.std.specs.Prelude.{◌≡◌, ℕ, Bool, false, List, [], Option, Some, None, is_some, option_map, unwrap_or, codes, if◌then◌else◌}
+use Rattle.std.specs.Prelude.{◌≡◌, ℕ, Bool, false, List, [], Option, Some, None, is_some, option_and_then, option_map, slice_get, unwrap_or, codes, if◌then◌else◌}
 use Rattle.std.specs.Option.{option_map_or}
 use Rattle.std.specs.Str.{bytes_eq}
 use Rattle.std.specs.Str.Parse.{digits_value, without_leading_plus}
@@ -13,6 +13,10 @@ has_no_fault app words = is_empty (fault_of app words)
 -- what the words ask of a command: `clap` finds no fault in them, and the values that its matches give are lawful
 abbrev pub call_by : {A : Type 0} → App → (List Row → Option A) → List Text → Option A
 call_by app lawful words = if has_no_fault app words then lawful (matches_of app words) else None
+
+-- what words ask for, by what they ask of the command that has their first word for its name
+abbrev pub by_first_word : {A : Type 0} → (Text → List Text → Option A) → List Text → Option A
+by_first_word asked words = option_and_then (λ name. asked name words) (slice_get words 0)
 
 -- the text of an argument
 abbrev pub text_at : Text → List Row → Text

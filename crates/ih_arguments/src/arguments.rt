@@ -1,6 +1,7 @@
 //! The rules of the commands' arguments, for `clap`.
-ghost use Rattle.std.specs.Prelude.{◌≡◌, IfOk, false};
-ghost use Rattle.clap.specs.Words.{App, Rule, app_of, rule_of, with_rule};
+ghost use Rattle.std.specs.Prelude.{◌≡◌, IfOk, false, true};
+ghost use Rattle.clap.specs.Words.{App, Rule, app_of, new_app, rule_of, with_rule};
+ghost use Rattle.clap.specs.Words.{with_subcommand};
 ghost use Rattle.ih_arguments.specs.Arguments.{IsChanged, any_number_option, files_app, flag, named, named_number};
 ghost use Rattle.ih_arguments.specs.Arguments.{numbered_option, optional, optional_between, optional_number, seed_option};
 
@@ -81,6 +82,19 @@ pub fn flag<'a>(alloc: Global, id: &'a str) -> Arg<'a>
     Arg::new(alloc, id).long(id).action(ArgAction::SetTrue)
 }
 
+/// A command without arguments, with what the help says of it, and the words that call it.
+pub fn described<'a>(
+    alloc: Global,
+    name: &'a str,
+    about: &'a str,
+    called: &'a str,
+) -> Result<Command<'a>, AllocError>
+    ensures { IfOk result (λ c. app_of c ≡ new_app name.entry.now) }
+{
+    let command = Command::new(alloc, name).about(about).bin_name(called)?;
+    Ok(command)
+}
+
 /// The description with one argument more, where there was memory for it. Lack of memory is passed on, so that a whole
 /// description has no branches.
 pub fn with<'a>(
@@ -95,6 +109,32 @@ pub fn with<'a>(
         Ok(command) => command.arg(argument),
         Err(e) => Err(e),
     }
+}
+
+/// The same, with a line of help on the argument.
+pub fn with_helped<'a>(
+    description: Result<Command<'a>, AllocError>,
+    argument: Arg<'a>,
+    help: &'a str,
+) -> Result<Command<'a>, AllocError>
+    requires { argument.global ≡ false }
+    ensures { (app : App) (rule : Rule) → IfOk description.entry (λ c. app_of c ≡ app) → rule_of argument.entry ≡ rule
+        → IfOk result (λ c. app_of c ≡ with_rule app rule) }
+{
+    with(description, argument.help(help))
+}
+
+/// The description of a program with a command more.
+pub fn with_command<'a>(
+    program: Result<Command<'a>, AllocError>,
+    command: Result<Command<'a>, AllocError>,
+) -> Result<Command<'a>, AllocError>
+    ensures { (above below : App) → below.top.is_plain ≡ true → IfOk program.entry (λ c. app_of c ≡ above)
+        → IfOk command.entry (λ c. app_of c ≡ below) → IfOk result (λ c. app_of c ≡ with_subcommand above below.top) }
+{
+    let program = program?;
+    let command = command?;
+    program.subcommand(command)
 }
 
 /// `NAME INSTANCE SOLUTION`.

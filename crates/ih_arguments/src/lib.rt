@@ -3,6 +3,7 @@
 #![tactic(auto)]
 
 pub mod arguments;
+pub mod explaining;
 pub mod file_names;
 pub mod matches;
 pub mod start;

@@ -1,10 +1,9 @@
 //! What `clap` reads of the words of a command, and the values that it gives to the arguments.
-ghost use Rattle.std.specs.Prelude.{◌≡◌, ℕ, IfErr, IfOk, true, map, option_map, string_bytes};
-ghost use Rattle.clap.specs.Words.{App, HasKind, Rule, app_of, fault_of, first_of, found_of, is_simple_and_free};
-ghost use Rattle.clap.specs.Words.{matches_of, rows_of};
-ghost use Rattle.ih_arguments.specs.Matches.{HasNumber, HasText, IsNumberIfGiven, flag_at, has_no_fault};
+ghost use Rattle.std.specs.Prelude.{◌≡◌, IfErr, IfOk, true, map, option_map, string_bytes};
+ghost use Rattle.clap.specs.Words.{App, HasKind, app_of, fault_of, first_of, found_of, is_simple_and_free, rows_of};
+ghost use Rattle.ih_arguments.specs.Matches.{HasNumber, HasText, IsNumberIfGiven, flag_at};
 ghost use Rattle.ih_arguments.specs.Matches.{is_given, number_at, number_if_given, text_at};
-ghost use Rattle.ih_arguments.specs.Rules.{Requires, RequiresNumber, TakesNumber, has_independent_rules};
+ghost use Rattle.ih_arguments.specs.Rules.{AreMatches, has_independent_rules};
 
 use clap::ArgMatches;
 use std::alloc::AllocError;
@@ -18,16 +17,7 @@ pub fn matched<'a>(
     requires described { IfOk description (λ d. app_of d ≡ app) }
     requires simple { is_simple_and_free app ≡ true }
     requires independent { has_independent_rules app ≡ true }
-    ensures no_fault { IfOk result (λ m. has_no_fault app (map string_bytes words.entry.now) ≡ true) }
-    ensures rows { IfOk result (λ m. rows_of (found_of m) ≡ matches_of app (map string_bytes words.entry.now)) }
-    ensures texts { IfOk result
-        (λ m. (k : ℕ) (rule : Rule) → Requires app k rule → HasText rule.id (rows_of (found_of m))) }
-    ensures numbers { IfOk result
-        (λ m. (k : ℕ) (rule : Rule) (low high : ℕ) → RequiresNumber app k rule low high
-        → HasNumber low high rule.id (rows_of (found_of m))) }
-    ensures optional { IfOk result
-        (λ m. (k : ℕ) (rule : Rule) (low high : ℕ) → TakesNumber app k rule low high
-        → IsNumberIfGiven low high rule.id (rows_of (found_of m))) }
+    ensures matched { IfOk result (AreMatches app (map string_bytes words.entry.now)) }
     ensures faults { IfErr result (HasKind (fault_of app (map string_bytes words.entry.now))) }
 {
     let command = description?;

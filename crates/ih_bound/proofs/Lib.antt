@@ -10,3 +10,4 @@ pub mod LeastPaid
 pub mod DealtLemmas
 pub mod FloorLemmas
 pub mod PutLemmas
+pub mod HowFar

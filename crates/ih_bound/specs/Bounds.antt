@@ -1,5 +1,5 @@
 -- What is said of all feasible timetables of an instance.
-use Rattle.std.specs.Prelude.{◌≡◌, ◌+◌, ⊤, true, pos, ◌≤ℤ◌}
+use Rattle.std.specs.Prelude.{◌≡◌, ℕ, ◌+◌, ◌≤◌, ⊤, true, pos, ◌≤ℤ◌}
 use Rattle.ih_tables.specs.declared.drafts.Draft.{Draft}
 use Rattle.ih_tables.specs.Bills.{feasible, cost}
 use Rattle.ih_plan.specs.Timetable.{Timetable, IsPlanOf}
@@ -21,6 +21,11 @@ Bounds I P (AtLeast b) = pos b.value ≤ℤ cost I.weights (bill_of I P)
 abbrev pub AddUp : Outcome → Type 0
 AddUp Infeasible = ⊤
 AddUp (AtLeast b) = b.parts.delay + b.parts.left_out + b.parts.theatres + b.parts.nurses ≡ b.value
+
+-- it tells of so many rounds at most
+abbrev pub IsFoundIn : ℕ → Outcome → Type 0
+IsFoundIn rounds Infeasible = ⊤
+IsFoundIn rounds (AtLeast b) = b.rounds ≤ rounds
 
 -- the outcome holds of all feasible timetables
 abbrev pub HoldsOfAll : Draft → Outcome → Type 0

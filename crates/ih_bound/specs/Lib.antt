@@ -4,3 +4,5 @@ pub mod Paid
 pub mod Stays
 pub mod Least
 pub mod Dealing
+pub mod Judging
+pub mod Texts

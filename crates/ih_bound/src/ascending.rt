@@ -34,8 +34,9 @@ pub fn ascend<R: Threads + Sync>(
     effort: Effort,
     workers: usize,
 ) -> Result<Ascent, AllocError>
-    ensures { IfOk result (λ a. (P : Timetable) → IsFeasible inst.now.draft P
+    ensures value { IfOk result (λ a. (P : Timetable) → IsFeasible inst.now.draft P
         → a.value ≤ worth inst.now.draft rates.now P) }
+    ensures rounds { IfOk result (λ a. a.rounds ≤ effort.rounds) }
 {
     let mut workers = new_workers(alloc, inst, workers)?;
     ascend_by(rt, alloc, inst, rates, effort, workers.as_mut_slice())
@@ -51,8 +52,9 @@ fn ascend_by<R: Threads + Sync>(
     workers: &mut [BoundWorker],
 ) -> Result<Ascent, AllocError>
     requires { All (HasFloors inst.now.draft rates.now) workers.old }
-    ensures { IfOk result (λ a. (P : Timetable) → IsFeasible inst.now.draft P
+    ensures value { IfOk result (λ a. (P : Timetable) → IsFeasible inst.now.draft P
         → a.value ≤ worth inst.now.draft rates.now P) }
+    ensures rounds { IfOk result (λ a. a.rounds ≤ effort.rounds) }
 {
     raise_floors(rt, inst, rates, &Prices::free(alloc), workers);
     let mut climb = Climb::new(alloc, inst, rates, effort.plain)?;

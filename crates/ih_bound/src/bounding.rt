@@ -2,7 +2,7 @@
 
 ghost use Rattle.std.specs.Prelude.{◌≡◌, ◌≤◌, ◌+◌, ◌*◌, ◌<◌, IfOk};
 ghost use Rattle.ih_plan.specs.Timetable.{Timetable};
-ghost use Rattle.ih_bound.specs.Bounds.{IsFeasible, HoldsOfAll, AddUp};
+ghost use Rattle.ih_bound.specs.Bounds.{IsFeasible, HoldsOfAll, AddUp, IsFoundIn};
 ghost use Rattle.ih_bound.specs.Tariffs.{worth};
 
 use crate::ascending::{Ascent, ascend};
@@ -34,7 +34,9 @@ fn without_weights() -> Effort {
 }
 
 // How they rise in so many rounds towards a bound.
-fn with_weights(inst: &Instance, rates: &Rates, rounds: u32) -> Effort {
+fn with_weights(inst: &Instance, rates: &Rates, rounds: u32) -> Effort
+    ensures { result.rounds ≡ rounds }
+{
     let patients = inst.patients() as u64;
     Effort {
         rounds,
@@ -70,7 +72,9 @@ fn days_of_stays(inst: &Instance) -> (u64, u64) {
 }
 
 // As many rounds as may be made, and no more than so many.
-fn rounds_within(inst: &Instance, rounds: u32) -> u32 {
+fn rounds_within(inst: &Instance, rounds: u32) -> u32
+    ensures { result ≤ rounds }
+{
     let a_day = rostered(inst) / (inst.days() as u64).max(1);
     let (one, all) = days_of_stays(inst);
     let left = MOST_LOOKS.saturating_sub(all.saturating_mul(a_day));
@@ -96,6 +100,7 @@ fn parts_of(value: u64, spent: &Spent) -> Parts
 // The best of all rounds in units of the cost, rounded up.
 fn in_units(best: &Ascent) -> Bound
     ensures value { result.value * 4096 ≤ best.now.value + 4095 }
+    ensures rounds { result.rounds ≡ best.now.rounds }
     ensures parts { result.parts.delay + result.parts.left_out + result.parts.theatres + result.parts.nurses
         ≡ result.value }
 {
@@ -108,7 +113,7 @@ fn in_units(best: &Ascent) -> Bound
 }
 
 /// What no feasible timetable of an instance costs less than, or that there is none: the best that prices in so many
-/// rounds show, or in fewer where a round is dear. Persons are dealt to so many workers.
+/// rounds show, or in fewer where a round is dear. Persons are dealt to so many workers, one at least.
 pub fn bound<R: Threads + Sync>(
     rt: &R,
     alloc: Global,
@@ -116,8 +121,10 @@ pub fn bound<R: Threads + Sync>(
     rounds: u32,
     workers: u32,
 ) -> Result<Outcome, AllocError>
+    requires few { workers ≤ 64 }
     ensures holds { IfOk result (HoldsOfAll inst.now.draft) }
     ensures parts { IfOk result AddUp }
+    ensures rounds { IfOk result (IsFoundIn rounds) }
 {
     let workers = workers.max(1) as usize;
     let none = ascend(rt, alloc, inst, &Rates::none(), without_weights(), workers)?;

@@ -1,4 +1,5 @@
-//! A lower bound: what no feasible timetable of an instance costs less than, by weak duality in integers.
+//! A lower bound: what no feasible timetable of an instance costs less than, by weak duality in integers. And what
+//! is said of it.
 #![tactic(auto)]
 
 mod ascending;
@@ -9,6 +10,7 @@ mod demand;
 mod evaluating;
 mod floors;
 mod incomes;
+mod judging;
 mod moving;
 mod numbers;
 mod outcomes;
@@ -16,6 +18,9 @@ mod people;
 mod prices;
 mod scratch;
 mod stays;
+mod texts;
 
 pub use bounding::bound;
+pub use judging::{Judged, judge, no_infeasibility};
 pub use outcomes::{Bound, Outcome, Parts};
+pub use texts::bound_text;

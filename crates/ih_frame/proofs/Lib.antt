@@ -1,4 +1,6 @@
+pub mod Begun
 pub mod CommandEnds
 pub mod Complete
 pub mod Leaving
+pub mod SameFiles
 pub mod StepByStep

@@ -3,7 +3,9 @@ use Rattle.std.specs.Prelude.{◌≡◌, ◌≢◌, ℕ, ◌+◌, ◌<◌, ◌�
 use Rattle.ih_shelf.specs.Outside.{IfTold, Names}
 use Rattle.ih_answers.specs.declared.status.Status.{Status}
 use Rattle.ih_answers.specs.declared.status.Status.TheVariants.{Done, OutOfMemory}
+use Rattle.ih_inputs.specs.Reading.{InputFiles}
 use Rattle.ih_answers.specs.Ends.{Unchanged}
+use Rattle.ih_answers.specs.Inputs.{EndsUnread}
 use Rattle.ih_answers.specs.Texts.{memory_text}
 use Rattle.ih_frame.specs.Outcomes.{AreWritten, IsLeft, OutcomeState}
 
@@ -52,6 +54,14 @@ pub record StepsEnds {X : Type 0} (steps_to : X → OutcomeState → X → Type 
   pub rest : List ℕ
   pub said : text ≡ told taken.steps ++ rest
   pub ends : EndsFrom steps_to ends_as left taken.now mid new status rest
+
+-- How a call ends that reads its files before it goes on in steps: they can't be had, or memory ran out; or it goes on
+-- from where it begins.
+abbrev pub BegunEnds : {X : Type 0} → (X → Type 0) → (X → OutcomeState → X → Type 0) → (X → OutcomeState → Type 0) → ℕ
+    → InputFiles → Option Names → Option Names → Status → List ℕ → Type 0
+BegunEnds {X} begins steps_to ends_as count r old new status text =
+    (IfTold Unchanged old new × EndsUnread old r status text)
+    ⊎ ((x : X) × begins x × StepsEnds steps_to ends_as count x old new status text)
 
 -- no more puts than so many were counted
 abbrev pub ArePutsAtMost : ℕ → ℕ → ℕ → Type 0

@@ -15,7 +15,7 @@ use Rattle.ih_plan.specs.declared.moves.Write.{Write}
 use Rattle.ih_plan.specs.declared.moves.Write.TheVariants.{SetCare}
 use Rattle.ih_plan.specs.Expand.{IsMoveOf, after, expand, in_run, restay, swap_stays}
 use Rattle.ih_plan.specs.Presence.{day_of}
-use Rattle.ih_plan.specs.Series.{after_all}
+use Rattle.ih_plan.specs.Series.{AreMoves, after_all}
 use Rattle.ih_plan.specs.Timetable.{Timetable, IsPlanOf, choice_of, stay_of}
 use Rattle.ih_plan.proofs.PlanRanges.{after-plan, expand-writes}
 use Rattle.ih_plan.specs.Frozen.{KeepsFrozen, is_before, is_frozen_write}
@@ -25,18 +25,6 @@ use Rattle.ih_improve.specs.Frozen.{may_be_frozen}
 both : (a b : Bool) → a ≡ false → b ≡ false → (a || b) ≡ false
 both true b h k = absurd (let no : true ≡ false = h in cc)
 both false b h k = k
-
--- no day is before day 0
-pub keeps-none : (I : Draft) (S P : Timetable) → KeepsFrozen I S 0 P
-keeps-none I S P = record {
-  admitted = λ p h. absurd (let no : true ≡ false = sym h ∙ none (stay_of S p) in cc);
-  others = λ p h. none (stay_of P p);
-  nurses = λ r k rh kh before. absurd (omega arith);
-}
-  where
-    none : (s : Option Placement) → is_before 0 s ≡ false
-    none None = refl
-    none (Some at) = le-ltb at.day.0 0 (omega arith)
 
 module _ (I : Draft) (S : Timetable) (f : ℕ) where
   restay-free : (p : PatientNo) (g : Placement → Option Placement) (s : Option Placement) → is_before f (stay_of S p.0) ≡ false
@@ -93,13 +81,11 @@ module _ (I : Draft) (S : Timetable) (f : ℕ) where
     keeps-move : (m : Move) → IsPlanOf I P → IsMoveOf I m → may_be_frozen S f m ≡ false → KeepsFrozen I S f (after I P m)
     keeps-move m plan fits h = agrees-put_all I S f P (expand I P m) plan (expand-writes I P m plan fits) agrees (writes-free m h)
 
-  pub keeps-no_moves : (P : Timetable) → KeepsFrozen I S f P → KeepsFrozen I S f (after_all I P [])
+  -- so do moves of which none may be frozen
+  pub keeps-all : (ms : List Move) → AreMoves I ms → list_any (may_be_frozen S f) ms ≡ false → (P : Timetable) → IsPlanOf I P → KeepsFrozen I S f P
+      → KeepsFrozen I S f (after_all I P ms)
   unfolding after_all
-  keeps-no_moves P agrees = agrees
-
-  -- a move that isn't frozen before others
-  pub keeps-more : (m : Move) (ms : List Move) → IsMoveOf I m → may_be_frozen S f m ≡ false
-      → ((P : Timetable) → IsPlanOf I P → KeepsFrozen I S f P → KeepsFrozen I S f (after_all I P ms))
-      → (P : Timetable) → IsPlanOf I P → KeepsFrozen I S f P → KeepsFrozen I S f (after_all I P (m ∷ ms))
-  unfolding after_all
-  keeps-more m ms fits free rest P plan agrees = rest (after I P m) (after-plan I P m plan fits) (keeps-move P agrees m plan fits free)
+  keeps-all [] fit none P plan agrees = agrees
+  keeps-all (m ∷ ms) fit none P plan agrees =
+      let parts = neither (may_be_frozen S f m) (list_any (may_be_frozen S f) ms) none in
+      keeps-all ms fit.1 parts.1 (after I P m) (after-plan I P m plan fit.0) (keeps-move P agrees m plan fit.0 parts.0)

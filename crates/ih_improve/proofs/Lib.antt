@@ -5,3 +5,4 @@ pub mod FrozenMoves
 pub mod WeightLemmas
 pub mod RoundLemmas
 pub mod Underway
+pub mod GivenSettings

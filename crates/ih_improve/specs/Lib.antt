@@ -2,6 +2,7 @@ pub mod Better
 pub mod Defaults
 pub mod Following
 pub mod Frozen
+pub mod Given
 pub mod ImproverState
 pub mod Keeping
 pub mod Laws

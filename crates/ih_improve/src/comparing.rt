@@ -1,23 +1,14 @@
-//! The score of a bill, and which of two bills is better.
+//! Which of two bills is better.
 
 ghost use Rattle.std.specs.Prelude.{◌≡◌, ◌≤◌, ◌^◌};
-ghost use Rattle.ih_tables.specs.Bills.{IsWithin, score};
+ghost use Rattle.ih_tables.specs.Bills.{IsWithin};
 ghost use Rattle.ih_improve.specs.Better.{is_better};
 
 use ih_tables::{Bill, Instance};
 
-/// The score of a bill: the weighted costs, and `hard` for each unit of a broken hard rule.
-pub(crate) fn score_of(inst: &Instance, hard: u32, bill: &Bill) -> i64
-    requires hard { hard ≤ 1000000 }
-    requires within { IsWithin (10 ^ 11) bill.now }
-    ensures { result ≡ score hard inst.now.draft.weights bill.now }
-{
-    bill.score(hard, inst.weights())
-}
-
 /// Whether the first bill is better than the second: a feasible one is better than one that isn't, two feasible ones go
 /// by their costs, and two others by their scores.
-pub(crate) fn is_better(inst: &Instance, hard: u32, first: &Bill, second: &Bill) -> bool
+pub fn is_better(inst: &Instance, hard: u32, first: &Bill, second: &Bill) -> bool
     requires hard { hard ≤ 1000000 }
     requires first { IsWithin (10 ^ 11) first.now }
     requires second { IsWithin (10 ^ 11) second.now }
@@ -27,6 +18,6 @@ pub(crate) fn is_better(inst: &Instance, hard: u32, first: &Bill, second: &Bill)
         (true, true) => first.cost(inst.weights()) < second.cost(inst.weights()),
         (true, false) => true,
         (false, true) => false,
-        (false, false) => score_of(inst, hard, first) < score_of(inst, hard, second),
+        (false, false) => inst.score_of(hard, first) < inst.score_of(hard, second),
     }
 }

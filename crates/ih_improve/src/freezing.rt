@@ -1,10 +1,9 @@
 //! Moves that may change a choice before the freeze day.
 
-ghost use Rattle.std.specs.Prelude.{◌≡◌, ◌<◌, false};
-ghost use Rattle.ih_plan.specs.{Timetable.Timetable, Timetable.IsPlanOf, Expand.IsMoveOf};
-ghost use Rattle.ih_plan.specs.Series.{AreMoves, after_all};
-ghost use Rattle.ih_plan.specs.Frozen.{KeepsFrozen, is_before};
-ghost use Rattle.ih_plan.specs.Timetable.{stay_of};
+ghost use Rattle.std.specs.Prelude.{◌≡◌, ◌<◌};
+ghost use Rattle.std.specs.List.{list_any};
+ghost use Rattle.ih_plan.specs.{Timetable.IsPlanOf, Timetable.stay_of, Expand.IsMoveOf};
+ghost use Rattle.ih_plan.specs.{Series.AreMoves, Frozen.is_before};
 ghost use Rattle.ih_tables.specs.Sizes.{patient_count};
 ghost use Rattle.ih_improve.specs.Frozen.{may_be_frozen};
 
@@ -41,31 +40,18 @@ fn may_be_frozen(inst: &Instance, start: &Plan, freeze: u32, mv: &Move) -> bool
     }
 }
 
-/// Whether one of the moves may change a choice before the freeze day, judged by the start and the moves alone. After
-/// `false` the moves keep the start's choices of these days on every timetable that has kept them. Of `true` nothing is
-/// promised: the moves may keep them too.
+/// Whether one of the moves may change a choice before the freeze day, judged by the start and the moves alone: exactly if
+/// one of them is of a patient, a day or a shift of then. The others keep the start's choices of these days on every
+/// timetable that has kept them.
 pub(crate) fn any_frozen(inst: &Instance, start: &Plan, freeze: u32, moves: &[Move]) -> bool
     requires start { IsPlanOf inst.now.draft start.now }
     requires inside { AreMoves inst.now.draft moves.now }
-    ensures { (P : Timetable) → result ≡ false → IsPlanOf inst.now.draft P
-        → KeepsFrozen inst.now.draft start.now freeze P
-        → KeepsFrozen inst.now.draft start.now freeze (after_all inst.now.draft P moves.now) }
-{
-    freeze != 0 && is_any(inst, start, freeze, moves)
-}
-
-// The same for any freeze day.
-fn is_any(inst: &Instance, start: &Plan, freeze: u32, moves: &[Move]) -> bool
-    requires start { IsPlanOf inst.now.draft start.now }
-    requires inside { AreMoves inst.now.draft moves.now }
-    ensures { (P : Timetable) → result ≡ false → IsPlanOf inst.now.draft P
-        → KeepsFrozen inst.now.draft start.now freeze P
-        → KeepsFrozen inst.now.draft start.now freeze (after_all inst.now.draft P moves.now) }
+    ensures { result ≡ list_any (may_be_frozen start.now freeze) moves.now }
 {
     match moves.split_first() {
         None => false,
         Some((mv, later)) => {
-            may_be_frozen(inst, start, freeze, mv) || is_any(inst, start, freeze, later)
+            may_be_frozen(inst, start, freeze, mv) || any_frozen(inst, start, freeze, later)
         }
     }
 }

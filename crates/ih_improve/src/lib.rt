@@ -5,6 +5,7 @@ mod accepting;
 mod comparing;
 mod defaults;
 mod freezing;
+mod given;
 mod heats;
 mod improver;
 mod laws;
@@ -15,7 +16,8 @@ mod settings;
 mod walkers;
 mod workers;
 
-pub use defaults::Defaults;
+pub use comparing::is_better;
+pub use given::Given;
 pub use improver::Improver;
 pub use laws::{
     GoesOn, defaults_are_determined, determined_workers_make_determined_rounds,

@@ -1,14 +1,14 @@
 //! A worker: attempts of its own, on its own ledgers, with random words of its own.
 
 use crate::accepting::most_accepted;
-use crate::comparing::score_of;
 use crate::freezing::any_frozen;
 use crate::heats::Pace;
 use crate::legs::Leg;
 use crate::rounds::Walks;
 use crate::walkers::Walker;
+use ih_moves::Chain;
 use ih_plan::Plan;
-use ih_proposals::{Attempt, RandomWords, propose, repair};
+use ih_proposals::{RandomWords, propose, repair};
 use ih_tables::{Bill, Instance};
 use std::alloc::{AllocError, Global};
 
@@ -21,7 +21,7 @@ const ATTEMPTS_AT_A_HEAT: u64 = 1024;
 pub(crate) struct ImproveWorker<'a> {
     pub(crate) walker: Walker<'a>,
     pub(crate) words: RandomWords,
-    pub(crate) moves: Attempt,
+    pub(crate) moves: Chain,
 }
 
 impl<'a> ImproveWorker<'a> {
@@ -46,7 +46,7 @@ impl<'a> ImproveWorker<'a> {
         Ok(ImproveWorker {
             walker: Walker::new(alloc, inst, plan, bill)?,
             words: RandomWords::new(0, 0, 0),
-            moves: Attempt::new(),
+            moves: Chain::new(),
         })
     }
 
@@ -56,8 +56,8 @@ impl<'a> ImproveWorker<'a> {
         leg.know_leg();
         let settings = leg.settings();
         let inst = leg.instance();
-        let own = score_of(inst, settings.hard, self.walker.bill());
-        let best = score_of(inst, settings.hard, self.walker.best_bill());
+        let own = inst.score_of(settings.hard, self.walker.bill());
+        let best = inst.score_of(settings.hard, self.walker.best_bill());
         let far = (pace.cooling.at(done) >> 16) * u64::from(inst.persons());
         settings.attempts - settings.attempts / 10 <= done || own.saturating_sub(best) > far as i64
     }
@@ -91,7 +91,7 @@ impl<'a> ImproveWorker<'a> {
             return false;
         }
         let price = self.walker.price(moves);
-        let score = score_of(inst, pace.hard, &price);
+        let score = inst.score_of(pace.hard, &price);
         if score <= most {
             self.walker.make_moves(settings.hard, moves, &price);
             return false;

@@ -21,6 +21,12 @@ abbrev pub refused_as : InputRole → Refusal → InputError
 refused_as Older e = OlderRefused e
 refused_as role e = SolutionRefused e
 
+-- the error is of the file with this role; a refusal and lack of memory tell theirs, or none, by themselves
+abbrev pub IsOf : InputRole → InputError → Type 0
+IsOf role (ReadFault of) = of ≡ role
+IsOf role (TooLong of) = of ≡ role
+IsOf role error = Unit {0}
+
 -- a fault is answered only where the count of those of reads rose
 abbrev pub HasFaultCause : ℕ → ℕ → InputError → Type 0
 HasFaultCause reads reads' (ReadFault role) = Rose reads reads'

@@ -2,7 +2,7 @@
 
 ghost use Rattle.std.specs.Prelude.{◌≡◌, IfOk, IfErr, IfSome, option_map};
 ghost use Rattle.ih_plan.specs.Timetable.{IsPlanOf};
-ghost use Rattle.ih_inputs.specs.Errors.{error_of_file, refused_as, HasOnlyRead, HasReadCause};
+ghost use Rattle.ih_inputs.specs.Errors.{error_of_file, refused_as, HasOnlyRead, HasReadCause, IsOf};
 ghost use Rattle.ih_inputs.specs.Reading.{name_in, files_of, given_of, ArePlans, HasGiven, HasInputs, HasInstance};
 ghost use Rattle.ih_inputs.specs.Reading.{HasJournal, HasOlder, HasSolution, IsNoPlan, IsUnread};
 
@@ -82,6 +82,7 @@ fn read_instance_file<R: Files, S: Shelf>(
 ) -> Result<Box<Instance>, InputError>
     ensures read { IfOk result (λ i. IfSome (S.names shelf.old) (HasInstance names.now.instance.now i.value.draft)) }
     ensures unread { IfErr result (IsUnread (S.names shelf.old) (files_of names.now)) }
+    ensures role { IfErr result (IsOf InputRole.Instance) }
     ensures cause { IfErr result (HasReadCause S.Shelf shelf.old shelf.new) }
     ensures only { HasOnlyRead S.Shelf shelf.old shelf.new }
 {
@@ -120,6 +121,7 @@ fn read_plan<R: Files, S: Shelf>(
     ensures plan { IfOk result (IsPlanOf inst.now.draft) }
     ensures read { IfOk result (λ p. IfSome (S.names shelf.old) (HasSolution name.now inst.now.draft p)) }
     ensures unread { IfErr result (IsNoPlan role (S.names shelf.old) name.now inst.now.draft) }
+    ensures role { IfErr result (IsOf role) }
     ensures cause { IfErr result (HasReadCause S.Shelf shelf.old shelf.new) }
     ensures only { HasOnlyRead S.Shelf shelf.old shelf.new }
 {
@@ -145,6 +147,7 @@ fn read_first_plan<R: Files, S: Shelf>(
     ensures plan { IfOk result (IsPlanOf inst.now.draft) }
     ensures read { IfOk result (HasInputs (S.names shelf.old) (files_of names.now) inst.now.draft) }
     ensures unread { IfErr result (IsUnread (S.names shelf.old) (files_of names.now)) }
+    ensures role { IfErr result (IsOf InputRole.Solution) }
     ensures cause { IfErr result (HasReadCause S.Shelf shelf.old shelf.new) }
     ensures only { HasOnlyRead S.Shelf shelf.old shelf.new }
 {
@@ -170,6 +173,7 @@ fn read_older<R: Files, S: Shelf>(
     ensures plan { IfOk result (λ o. IfSome o (IsPlanOf inst.now.draft)) }
     ensures read { IfOk result (HasOlder (S.names shelf.old) (files_of names.now).older inst.now.draft) }
     ensures unread { IfErr result (IsUnread (S.names shelf.old) (files_of names.now)) }
+    ensures role { IfErr result (IsOf InputRole.Older) }
     ensures cause { IfErr result (HasReadCause S.Shelf shelf.old shelf.new) }
     ensures only { HasOnlyRead S.Shelf shelf.old shelf.new }
 {
@@ -197,6 +201,7 @@ fn read_journal<R: Files, S: Shelf>(
     ensures read { IfOk result
         (λ j. HasJournal (S.names shelf.old) (files_of names.now).journal (option_map (λ v. v.items) j)) }
     ensures unread { IfErr result (IsUnread (S.names shelf.old) (files_of names.now)) }
+    ensures role { IfErr result (IsOf InputRole.Journal) }
     ensures cause { IfErr result (HasReadCause S.Shelf shelf.old shelf.new) }
     ensures only { HasOnlyRead S.Shelf shelf.old shelf.new }
 {

@@ -12,10 +12,11 @@ ghost use Rattle.ih_fill.specs.{
 ghost use Rattle.ih_parfill.specs.Shares.{HasLooked, IsOfShare, IsShare};
 
 use crate::scans::{Found, ShareScan};
-use ih_fill::{Scorer, suits};
+use ih_fill::Scorer;
 use ih_moves::window_len;
 use ih_plan::Placement;
 use ih_tables::{Day, Instance, Patient, PatientNo, RoomNo, TheatreNo};
+use ih_validate::is_incompatible;
 
 // Looks at the candidate that the patient is out, where it is the worker's own.
 fn look_at_none(scorer: &Scorer<'_>, patient: PatientNo, scan: &mut ShareScan)
@@ -91,7 +92,8 @@ fn look_on_day(
 {
     for r in 0..inst.rooms() {
         let room = RoomNo(r);
-        if suits(patient, room) {
+        let suits = !is_incompatible(patient, room);
+        if suits {
             look_in_room(inst, scorer, patient_no, day, room, scan);
         }
     }

@@ -1,12 +1,7 @@
-pub mod CallEnds
-pub mod Completeness
-pub mod Descriptions
+pub mod Calls
 pub mod FirstWord
-pub mod HowFar
-pub mod ImproveCalls
 pub mod Promises
 pub mod RoundsTaken
 pub mod SameRounds
 pub mod SameSearches
 pub mod SettingsRead
-pub mod WordsRead

@@ -9,6 +9,7 @@ use Rattle.ih_validate.specs.Report.{report}
 use Rattle.ih_improve.specs.Following.{MayFollow}
 use Rattle.ih_improve.specs.ImproverState.{ImproverState}
 use Rattle.ih_improve.specs.Legs.{Leaves}
+use Rattle.ih_improve.proofs.BetterLemmas.{no_dearer-through}
 use Rattle.ih_answers.specs.declared.status.Status.{Status}
 use Rattle.ih_answers.specs.declared.status.Status.TheVariants.{Done, NoneFound, OutOfMemory, WriteFault}
 use Rattle.ih_answers.specs.Answers.{unsaid}
@@ -74,6 +75,7 @@ module _ (c : ImproveCall) (old new : Option Names) (text : List ℕ) (v : Impro
     by_best true works is_found =
         let rounds : w.rounds ≡ v.rounds + length e.taken.steps = ap (λ (x : ImproverState). x.rounds) here in
         let inside : w.instance ≡ v.instance = ap (λ (x : ImproverState). x.instance) here in
+        let behind : MayFollow v.instance v.start v.settings.freeze v.start w.kept = follows e.taken.steps w some e.taken.are in
         let told_last : IfTold Unchanged e.mid new = subst (λ (x : OutcomeState). IfTold (AreWritten x.writes) e.mid new) is_found written in
         record {
           instance = v.instance;
@@ -85,7 +87,8 @@ module _ (c : ImproveCall) (old new : Option Names) (text : List ℕ) (v : Impro
           started = is.from.start;
           best = w.kept;
           feasible = subst (λ I. feasible (bill_of I w.kept) ≡ true) inside works;
-          follows = subst (λ (f : ℕ). MayFollow v.instance v.start f v.start w.kept) freeze-is (follows e.taken.steps w some e.taken.are);
+          follows = subst (λ (f : ℕ). MayFollow v.instance v.start f v.start w.kept) freeze-is behind;
+          no_dearer = no_dearer-through v.instance is.given v.start w.kept is.from.no_dearer behind.no_dearer;
           written = subst (λ I. IfTold (IsWritten c.out (solution I w.kept)) old new) inside
               (told-then (AreAllWritten e.taken.steps) Unchanged (IsWritten c.out (solution w.instance w.kept)) old e.mid new
               (λ x y z h k. let found = (holds Leaves c.out v none-yet e.taken.steps w x y e.taken.are h).found (omega (arith, rounds, some)) works in

@@ -1,13 +1,23 @@
--- The command `bound`: its description for `clap` and its values.
-use Rattle.std.specs.Prelude.{ℕ, List, Option, Some, codes, option_map, unwrap_or}
+-- The command `bound`: its description for `clap`, its values and what it comes to.
+use Rattle.std.specs.Prelude.{◌≡◌, ℕ, ◌≤◌, Bool, true, false, List, Option, Some, codes, option_map, unwrap_or}
 use Rattle.clap.specs.Words.{App, Row, Rule, Text, first_of, new_app, new_rule, with_rule}
 use Rattle.clap.specs.declared.builder.action.ArgAction.TheVariants.{Set}
 use Rattle.ih_plan.specs.declared.limits.TheConstants.{MAX_WORKERS}
 use Rattle.ih_arguments.specs.Arguments.{named, optional_between}
 use Rattle.ih_arguments.specs.Matches.{HasText, IsNumberIfGiven, number_if_given, text_at}
-use Rattle.ih_inputs.specs.Reading.{InputFiles, said_files}
-use Rattle.ih_planning.specs.declared.bound_words.Bound.{Bound}
-use Rattle.ih_planning.specs.declared.bound_words.TheConstants.{DEFAULT_BOUND_WORKERS, DEFAULT_BOUND_ROUNDS, MAX_BOUND_ROUNDS}
+use Rattle.ih_tables.specs.declared.drafts.Draft.{Draft}
+use Rattle.ih_plan.specs.Timetable.{Timetable}
+use Rattle.ih_inputs.specs.Reading.{Given, InputFiles, said_files}
+use Rattle.ih_answers.specs.declared.status.Status.{Status}
+use Rattle.ih_answers.specs.declared.status.Status.TheVariants.{Done, Infeasible as NotFeasible}
+use Rattle.ih_frame.specs.Outcomes.{OutcomeState, says}
+use Rattle.ih_bound.specs.Bounds.{AddUp, HoldsOfAll, IsFoundIn}
+use Rattle.ih_bound.specs.Judging.{HasGap, judged, no_infeasibility}
+use Rattle.ih_bound.specs.Texts.{bound_text}
+use Rattle.ih_bound.specs.declared.judging.Judged.{Judged}
+use Rattle.ih_bound.specs.declared.outcomes.Outcome.{Outcome}
+use Rattle.ih_planning.specs.declared.bound.Bound.{Bound}
+use Rattle.ih_planning.specs.declared.bound.TheConstants.{DEFAULT_BOUND_WORKERS, DEFAULT_BOUND_ROUNDS, MAX_BOUND_ROUNDS}
 
 -- an argument with one value, by its place, which may be left out
 abbrev pub optional_name : Text → Rule
@@ -39,6 +49,10 @@ bound_call b = record {
   workers = b.workers;
 }
 
+-- its workers are no more than there may be
+abbrev pub HasFewWorkers : Bound → Type 0
+HasFewWorkers b = b.workers ≤ MAX_WORKERS
+
 -- the files that the call reads
 abbrev pub bound_inputs : BoundCall → InputFiles
 bound_inputs c = said_files c.instance c.solution
@@ -61,3 +75,25 @@ bound_in rows = record {
 -- each call that `clap` finds no fault in is lawful: it writes no file
 abbrev pub lawful_bound : List Row → Option BoundCall
 lawful_bound rows = Some (bound_in rows)
+
+-- ---- what it comes to
+
+-- the timetable beside the bound, where a file is named for it
+abbrev pub judged_of : Option Text → Draft → Timetable → Option Judged
+judged_of solution I P = option_map (λ name. judged I P) solution
+
+-- the status by whether nothing infeasible was found
+abbrev pub bound_status : Bool → Status
+bound_status true = Done
+bound_status false = NotFeasible
+
+-- What a call of bound comes to: what is said holds of all feasible timetables of the instance, and was found in as many
+-- rounds as the call asks for, or fewer. Nothing is written.
+pub record IsBounded (c : BoundCall) (g : Given) (o : OutcomeState) : Type 0 where
+  pub outcome : Outcome
+  pub holds : HoldsOfAll g.instance outcome
+  pub parts : AddUp outcome
+  pub rounds : IsFoundIn c.rounds outcome
+  pub gap : HasGap g.instance g.plan outcome
+  pub said : o ≡ says (bound_status (no_infeasibility (judged_of c.solution g.instance g.plan) outcome))
+      (bound_text (judged_of c.solution g.instance g.plan) outcome)

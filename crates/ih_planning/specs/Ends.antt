@@ -1,34 +1,22 @@
 -- How a call of the program ends: what it then has read, written and said, by its status.
-use Rattle.std.specs.Prelude.{◌≡◌, ℕ, ◌+◌, ◌⊎◌, List, Option, Some, None}
+use Rattle.std.specs.Prelude.{◌≡◌, ℕ, ◌+◌, List, Option, Some, None}
 use Rattle.clap.specs.Words.{Text}
 use Rattle.ih_shelf.specs.Outside.{IfTold, IsOnePutAtMost, Names}
-use Rattle.ih_inputs.specs.Reading.{Given, HasGiven, InputFiles}
+use Rattle.ih_arguments.specs.Explaining.{MayAskForHelp, MayBeRefused}
+use Rattle.ih_inputs.specs.Reading.{Given, HasGiven}
 use Rattle.ih_answers.specs.declared.status.Status.{Status}
-use Rattle.ih_answers.specs.declared.status.Status.TheVariants.{Done, Infeasible, Usage, NoneFound, WriteFault, OutOfMemory}
+use Rattle.ih_answers.specs.declared.status.Status.TheVariants.{Done, Usage, WriteFault, OutOfMemory}
 use Rattle.ih_answers.specs.Ends.{Ends, Unchanged}
 use Rattle.ih_answers.specs.Texts.{memory_text}
 use Rattle.ih_frame.specs.Ends.{CommandEnds}
 use Rattle.ih_frame.specs.Steps.{ArePutsAtMost}
-use Rattle.ih_planning.specs.Bound.{bound_inputs}
-use Rattle.ih_planning.specs.Bounding.{IsBounded}
-use Rattle.ih_planning.specs.Explaining.{MayAskForHelp, MayBeRefused, app_for}
-use Rattle.ih_planning.specs.Improve.{improve_inputs}
+use Rattle.ih_planning.specs.Calls.{Call, IsAnswered, app_for, comes_to, improve, inputs_of}
 use Rattle.ih_planning.specs.Searching.{ImproveEnds}
-use Rattle.ih_planning.specs.View.{view_inputs}
-use Rattle.ih_planning.specs.Viewing.{IsViewed}
-use Rattle.ih_planning.specs.Words.{Call, bound, improve, view}
-
--- the files that a call reads
-abbrev pub inputs_of : Call → InputFiles
-inputs_of (improve c) = improve_inputs c
-inputs_of (view v) = view_inputs v
-inputs_of (bound b) = bound_inputs b
 
 -- what a call has read and written, and the text that it had to say, by its status
 abbrev pub CallEnds : Call → Option Names → Option Names → Status → List ℕ → Type 0
 CallEnds (improve c) old new status text = ImproveEnds c old new status text
-CallEnds (view v) old new status text = CommandEnds (IsViewed v) (view_inputs v) old new status text
-CallEnds (bound b) old new status text = CommandEnds (IsBounded b) (bound_inputs b) old new status text
+CallEnds call old new status text = CommandEnds (comes_to call) (inputs_of call) old new status text
 
 -- The words name no call: help is said, where they may ask for that, or why they name none. No clause says these texts.
 abbrev pub NoCallEnds : List Text → Status → List ℕ → Type 0
@@ -56,12 +44,6 @@ HasFewPuts call old new = IfTold IsOnePutAtMost old new
 abbrev pub IsUntouched : {X : Type 0} → Option Call → X → X → Type 0
 IsUntouched None old new = new ≡ old
 IsUntouched (Some call) old new = Unit {0}
-
--- the answers of a call that has all that it needs
-abbrev pub IsAnswered : Call → Status → Type 0
-IsAnswered (improve c) status = (status ≡ Done) ⊎ (status ≡ NoneFound) ⊎ (status ≡ OutOfMemory)
-IsAnswered (view v) status = (status ≡ Done) ⊎ (status ≡ OutOfMemory)
-IsAnswered (bound b) status = (status ≡ Done) ⊎ (status ≡ Infeasible) ⊎ (status ≡ OutOfMemory)
 
 -- the files that a call reads are as they ought to be
 abbrev pub HasFiles : Call → Names → Type 0

@@ -8,7 +8,9 @@ use Rattle.ih_arguments.specs.Matches.{HasNumber, HasText, IsNumberIfGiven, numb
 use Rattle.ih_arguments.specs.Start.{StartCall, freezes_a_file, start_call, start_files, start_in, with_start}
 use Rattle.ih_plan.specs.declared.limits.TheConstants.{MAX_FREEZE}
 use Rattle.ih_inputs.specs.Reading.{InputFiles, said_files}
+use Rattle.ih_improve.specs.Given.{widest}
 use Rattle.ih_improve.specs.Settings.{IsLawful}
+use Rattle.ih_improve.specs.declared.given.Given.{Given}
 use Rattle.ih_improve.specs.declared.settings.Settings.{Settings}
 use Rattle.ih_improve.specs.declared.settings.TheConstants.{MAX_ATTEMPTS, MAX_ROUNDS}
 use Rattle.ih_planning.specs.declared.improve_words.Improve.{Improve}
@@ -66,18 +68,22 @@ improve_call i = record {
 abbrev pub improve_inputs : ImproveCall → InputFiles
 improve_inputs c = said_files c.instance c.start.file
 
--- its settings, with the widest heats and the greatest weight of a broken rule where none are given
-abbrev pub widest_settings : ImproveCall → Settings
-widest_settings c = record {
+-- the settings that it gives
+abbrev pub given_settings : ImproveCall → Given
+given_settings c = record {
   seed = c.seed;
   workers = c.workers;
   attempts = c.attempts;
   rounds = c.rounds;
-  hot = unwrap_or c.hot MAX_HEAT;
-  cold = unwrap_or c.cold 0;
-  hard = unwrap_or c.hard MAX_HARD;
+  hot = c.hot;
+  cold = c.cold;
+  hard = c.hard;
   freeze = c.start.freeze;
 }
+
+-- the same with the widest heats and the greatest weight of a broken rule where none are given
+abbrev pub widest_settings : ImproveCall → Settings
+widest_settings c = widest (given_settings c)
 
 -- each option is within the limits of its own: its settings are lawful if all workers together make few enough attempts
 -- and the heat doesn't rise

@@ -4,12 +4,12 @@ use Rattle.ih_tables.specs.declared.drafts.Draft.{Draft}
 use Rattle.ih_tables.specs.Bills.{feasible}
 use Rattle.ih_plan.specs.Timetable.{Timetable}
 use Rattle.ih_plan.specs.BillOf.{bill_of}
-use Rattle.ih_fill.specs.Starts.{started}
 use Rattle.ih_shelf.specs.Outside.{IfTold, IsWritten, Names}
 use Rattle.ih_solution.specs.Solution.{solution}
 use Rattle.ih_validate.specs.Report.{report}
 use Rattle.ih_inputs.specs.Reading.{HasInputs}
-use Rattle.ih_improve.specs.Following.{MayFollow}
+use Rattle.ih_improve.specs.Following.{IsNoDearer, MayFollow}
+use Rattle.ih_improve.specs.Given.{AreSettingsOf}
 use Rattle.ih_improve.specs.ImproverState.{ImproverState}
 use Rattle.ih_improve.specs.Laws.{IsDetermined}
 use Rattle.ih_improve.specs.Legs.{Leaves, LegState}
@@ -18,23 +18,25 @@ use Rattle.ih_answers.specs.declared.status.Status.TheVariants.{Done, NoneFound}
 use Rattle.ih_answers.specs.Ends.{Unchanged}
 use Rattle.ih_frame.specs.Outcomes.{OutcomeState}
 use Rattle.ih_frame.specs.Steps.{AreAllWritten, AreSteps}
-use Rattle.ih_planning.specs.Improve.{ImproveCall, improve_inputs}
+use Rattle.ih_planning.specs.Improve.{ImproveCall, given_settings, improve_inputs}
 use Rattle.ih_planning.specs.Rounds.{HoldsBest, IsRound, round_line}
-use Rattle.ih_planning.specs.Searching.{AreSettingsOf, ImproveEnds, IsSearch}
+use Rattle.ih_planning.specs.Searching.{ImproveEnds, IsSearch, begun}
 
 -- OUT has the solution of a feasible timetable that keeps the start's choices before the freeze day and, where the
--- start is feasible, costs at most as much; and what was told ends with the report on it, by its full bill.
+-- timetable that was given is feasible, costs at most as much, filled or not, and so it does where the start is; and what
+-- was told ends with the report on it, by its full bill.
 pub record IsImproved (c : ImproveCall) (old new : Option Names) (text : List ℕ) : Type 0 where
   pub instance : Draft
   pub given : Timetable
   pub inputs : HasInputs old (improve_inputs c) instance given
   pub settings : Settings
-  pub are_settings : AreSettingsOf instance c settings
+  pub are_settings : AreSettingsOf instance (given_settings c) settings
   pub start : Timetable
-  pub started : start ≡ started c.start.fill settings.hard instance given
+  pub started : start ≡ begun c.start.fill settings.hard instance given
   pub best : Timetable
   pub feasible : feasible (bill_of instance best) ≡ true
   pub follows : MayFollow instance start c.start.freeze start best
+  pub no_dearer : IsNoDearer instance given best
   pub written : IfTold (IsWritten c.out (solution instance best)) old new
   pub told : (before : List ℕ) × (text ≡ before ++ report instance.weights (bill_of instance best))
 

@@ -1,12 +1,8 @@
 pub mod Bound
-pub mod BoundTexts
-pub mod Bounding
+pub mod Calls
 pub mod Ends
-pub mod Explaining
 pub mod Improve
 pub mod Laws
 pub mod Rounds
 pub mod Searching
 pub mod View
-pub mod Viewing
-pub mod Words

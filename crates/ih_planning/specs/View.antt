@@ -1,15 +1,19 @@
--- The command `view`: its description for `clap` and its values.
-use Rattle.std.specs.Prelude.{◌==◌, ◌&&◌, Bool, true, List, ◌∷◌, length, Option, Some, None, codes, if◌then◌else◌, is_some, option_and_then, option_map, option_to_list}
+-- The command `view`: its description for `clap`, its values and what it comes to.
+use Rattle.std.specs.Prelude.{◌≡◌, ◌==◌, ◌&&◌, Bool, true, List, [], ◌∷◌, length, Option, Some, None, codes, if◌then◌else◌, is_some, option_and_then, option_map, option_to_list}
 use Rattle.std.specs.Option.{option_map_or}
 use Rattle.std.specs.Result.{result_ok}
 use Rattle.clap.specs.Words.{App, Row, Text, first_of, with_rule}
+use Rattle.jiff.specs.Types.{Date}
 use Rattle.jiff.specs.Words.{date_parts, parse_date}
 use Rattle.jiff_fmt.specs.Temporal.{DateParts}
 use Rattle.ih_arguments.specs.Arguments.{files_app, named, optional}
 use Rattle.ih_arguments.specs.Distinct.{all_differ}
 use Rattle.ih_arguments.specs.Matches.{HasNames, text_at}
-use Rattle.ih_inputs.specs.Reading.{InputFiles}
-use Rattle.ih_planning.specs.declared.view_words.View.{View}
+use Rattle.ih_page.specs.Page.{page_of}
+use Rattle.ih_inputs.specs.Reading.{Given, InputFiles}
+use Rattle.ih_answers.specs.declared.status.Role.TheVariants.{Out}
+use Rattle.ih_frame.specs.Outcomes.{OutcomeState, writes_one}
+use Rattle.ih_planning.specs.declared.view.View.{View}
 
 -- view INSTANCE SOLUTION PAGE [--from DATE] [--since OLDER]
 unfoldable pub view_app : App
@@ -79,3 +83,13 @@ view_files v = v.instance ∷ v.solution ∷ v.page ∷ option_to_list v.since
 abbrev pub lawful_view : List Row → Option ViewCall
 lawful_view rows =
     if names_a_day rows && all_differ (view_files (view_in rows)) then Some (view_in rows) else None
+
+-- ---- what it comes to
+
+-- the page of the timetable that the files give, with the date that is named and what changed since the older one, is
+-- written; nothing is said
+pub record IsViewed (v : ViewCall) (g : Given) (o : OutcomeState) : Type 0 where
+  -- the date of the first day
+  pub first : Option Date
+  pub from : option_map date_parts first ≡ v.from
+  pub page : o ≡ writes_one Out v.page (page_of g.instance first g.older g.plan) []

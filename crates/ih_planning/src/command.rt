@@ -1,15 +1,26 @@
-//! The commands, as callers see them, and how they are read.
+//! The commands, as callers see them, how they are read and how they are done.
 
 ghost use Rattle.std.specs.Prelude.{◌≡◌, ◌≢◌, IfErr, IfOk, None, Some, map, string_bytes, true};
-ghost use Rattle.clap.specs.Words.{App, app_of, with_subcommand};
-ghost use Rattle.ih_planning.specs.Explaining.{IsExplained, IsRead, app_for, app_named, program_app};
-ghost use Rattle.ih_planning.specs.Words.{HasLawfulSettings, call_named, call_of, command_call};
+ghost use Rattle.clap.specs.Words.{app_of, is_simple_and_free};
+ghost use Rattle.ih_arguments.specs.Explaining.{IsExplained, IsRead};
+ghost use Rattle.ih_answers.specs.{Answers.HasShelfCause, Ends.Ends, Ends.HasCause, Ends.Received};
+ghost use Rattle.ih_answers.specs.Texts.{ReceivedPart};
+ghost use Rattle.ih_planning.specs.Calls.{HasLawfulSettings, app_for, app_named, call_named, call_of, command_call};
+ghost use Rattle.ih_planning.specs.Calls.{program_app};
+ghost use Rattle.ih_planning.specs.Ends.{CallEnds, HasFewPuts};
 
-use crate::bound_words::{Bound, bound_description, read_bound};
-use crate::explaining::{NoCall, explained, refused};
+use crate::bound::{Bound, bound_description, read_bound};
 use crate::improve_words::{Improve, improve_description, read_improve};
-use crate::view_words::{View, read_view, view_description};
+use crate::improving::improve;
+use crate::view::{View, read_view, view_description};
+use ih_answers::Status;
+use ih_arguments::arguments::with_command;
+use ih_arguments::explaining::{NoCall, explained, refused};
+use ih_shelf::{Shelf, Sink};
 use std::alloc::{AllocError, Global};
+use std::rt::Files;
+use std::sync::Wait;
+use std::thread::Threads;
 
 /// A lawful command with its values.
 #[derive(Clone, Copy, Debug)]
@@ -22,22 +33,10 @@ pub enum Command<'a> {
     Bound(Bound<'a>),
 }
 
-// The description with a command more.
-fn with_command<'a>(
-    program: Result<clap::Command<'a>, AllocError>,
-    command: Result<clap::Command<'a>, AllocError>,
-) -> Result<clap::Command<'a>, AllocError>
-    ensures { (above below : App) → below.top.is_plain ≡ true → IfOk program.entry (λ c. app_of c ≡ above)
-        → IfOk command.entry (λ c. app_of c ≡ below) → IfOk result (λ c. app_of c ≡ with_subcommand above below.top) }
-{
-    let program = program?;
-    let command = command?;
-    program.subcommand(command)
-}
-
 // All commands, for the help on the program.
 fn program_description<'a>(alloc: Global) -> Result<clap::Command<'a>, AllocError>
-    ensures { IfOk result (λ c. app_of c ≡ program_app) }
+    ensures app { IfOk result (λ c. app_of c ≡ program_app) }
+    ensures simple { is_simple_and_free program_app ≡ true }
 {
     let empty = clap::Command::new(alloc, "ih_planner")
         .about("Makes timetables better, shows them and bounds their cost")
@@ -97,4 +96,28 @@ pub fn read_words<'a>(alloc: Global, words: &'a [String]) -> Result<Command<'a>,
         return Err(explained_commands(alloc, words));
     };
     read_named(alloc, name.as_str(), words)
+}
+
+/// Does what the command asks for, and says how that ended.
+pub fn perform<R: Files + Print + Threads + Wait + Sync, S: Shelf, O: Sink>(
+    rt: &R,
+    alloc: Global,
+    command: &Command<'_>,
+    shelf: &mut S,
+    out: &mut O,
+) -> Status
+    requires { HasLawfulSettings command.now }
+    ensures ends { Ends (CallEnds (command_call command.now) (S.names shelf.old) (S.names shelf.new))
+        (HasShelfCause S.Shelf shelf.old shelf.new)
+        (Received result (O.text out.old) (O.text out.new) (O.faults out.old) (O.faults out.new))
+        (ReceivedPart (O.text out.old) (O.text out.new) (O.lacks out.old) (O.lacks out.new)) result }
+    ensures once { HasFewPuts (Some (command_call command.now)) (O.puts out.old) (O.puts out.new) }
+    ensures cause { HasCause (S.read_faults shelf.old) (S.read_faults shelf.new) (S.write_faults shelf.old)
+        (S.write_faults shelf.new) (O.faults out.old) (O.faults out.new) result }
+{
+    match command {
+        Command::Improve(call) => improve(rt, alloc, call, shelf, out),
+        Command::View(call) => ih_frame::perform(rt, alloc, call, shelf, out),
+        Command::Bound(call) => ih_frame::perform(rt, alloc, call, shelf, out),
+    }
 }

@@ -7,20 +7,19 @@ ghost use Rattle.ih_arguments.specs.Start.{freezes_a_file, with_start};
 ghost use Rattle.ih_improve.specs.Settings.{IsLawful};
 ghost use Rattle.ih_planning.specs.Improve.{AreOptionsWithin, HasImprove, are_settings_lawful, improve_app};
 ghost use Rattle.ih_planning.specs.Improve.{improve_call, improve_files, improve_in, lawful_improve, required_app};
-ghost use Rattle.ih_planning.specs.Improve.{widest_settings};
-ghost use Rattle.ih_planning.specs.Explaining.{IsRead};
+ghost use Rattle.ih_planning.specs.Improve.{given_settings, widest_settings};
+ghost use Rattle.ih_arguments.specs.Explaining.{IsRead};
 
-use crate::arguments::with_help;
-use crate::explaining::{NoCall, explained, refused};
 use clap::{ArgMatches, Command};
 use ih_arguments::arguments::{
-    any_number_option, flag, named, numbered_option, optional, optional_between, optional_number,
-    seed_option, with,
+    any_number_option, described, flag, named, numbered_option, optional, optional_between,
+    optional_number, seed_option, with_helped,
 };
+use ih_arguments::explaining::{NoCall, explained, refused};
 use ih_arguments::file_names::all_differ;
 use ih_arguments::matches::{matched, number_if_given, text_of, u32_of, u64_of};
 use ih_arguments::start::{Start, freezes_a_file, start_in};
-use ih_improve::{MAX_ROUNDS, Settings};
+use ih_improve::{Given, MAX_ROUNDS};
 use ih_plan::{MAX_FREEZE, MAX_HARD, MAX_HEAT, MAX_WORKERS};
 use std::alloc::{AllocError, Global};
 
@@ -56,39 +55,28 @@ pub struct Improve<'a> {
 fn required_description<'a>(alloc: Global) -> Result<Command<'a>, AllocError>
     ensures { IfOk result (λ c. app_of c ≡ required_app) }
 {
-    let empty = Command::new(alloc, "improve")
-        .about(
-            "Searches for a better plan, and writes the best so far after each round that improved it",
-        )
-        .bin_name("ih_planner improve")?;
-    let instance = with(
-        Ok(empty),
-        with_help(named(alloc, "INSTANCE"), "The file of the instance"),
+    let empty = described(
+        alloc,
+        "improve",
+        "Searches for a better plan, and writes the best so far after each round that improved it",
+        "ih_planner improve",
     );
-    let out = with(
+    let instance = with_helped(empty, named(alloc, "INSTANCE"), "The file of the instance");
+    let out = with_helped(
         instance,
-        with_help(
-            named(alloc, "OUT"),
-            "The file that the best plan is written to",
-        ),
+        named(alloc, "OUT"),
+        "The file that the best plan is written to",
     );
-    let seed = with(
-        out,
-        with_help(seed_option(alloc), "Where the random numbers begin"),
-    );
-    let workers = with(
+    let seed = with_helped(out, seed_option(alloc), "Where the random numbers begin");
+    let workers = with_helped(
         seed,
-        with_help(
-            numbered_option(alloc, "workers", 1, MAX_WORKERS),
-            "How many search side by side",
-        ),
+        numbered_option(alloc, "workers", 1, MAX_WORKERS),
+        "How many search side by side",
     );
-    with(
+    with_helped(
         workers,
-        with_help(
-            any_number_option(alloc, "attempts"),
-            "How many attempts each worker makes",
-        ),
+        any_number_option(alloc, "attempts"),
+        "How many attempts each worker makes",
     )
 }
 
@@ -99,26 +87,20 @@ fn start_description<'a>(
 ) -> Result<Command<'a>, AllocError>
     ensures { IsChanged with_start description.entry result }
 {
-    let start = with(
+    let start = with_helped(
         description,
-        with_help(
-            optional(alloc, "start"),
-            "The file of a solution to start from [default: nobody is admitted]",
-        ),
+        optional(alloc, "start"),
+        "The file of a solution to start from [default: nobody is admitted]",
     );
-    let freeze = with(
+    let freeze = with_helped(
         start,
-        with_help(
-            optional_number(alloc, "freeze", MAX_FREEZE),
-            "The first day whose choices may change; it needs '--start' [default: 0]",
-        ),
+        optional_number(alloc, "freeze", MAX_FREEZE),
+        "The first day whose choices may change; it needs '--start' [default: 0]",
     );
-    with(
+    with_helped(
         freeze,
-        with_help(
-            flag(alloc, "fill"),
-            "Fills the start before the search; not with '--freeze'",
-        ),
+        flag(alloc, "fill"),
+        "Fills the start before the search; not with '--freeze'",
     )
 }
 
@@ -127,33 +109,25 @@ pub fn improve_description<'a>(alloc: Global) -> Result<Command<'a>, AllocError>
     ensures { IfOk result (λ c. app_of c ≡ improve_app) }
 {
     let required = required_description(alloc);
-    let rounds = with(
+    let rounds = with_helped(
         required,
-        with_help(
-            optional_between(alloc, "rounds", 1, MAX_ROUNDS),
-            "How often the best plan goes out to all workers [default: 20]",
-        ),
+        optional_between(alloc, "rounds", 1, MAX_ROUNDS),
+        "How often the best plan goes out to all workers [default: 20]",
     );
-    let hot = with(
+    let hot = with_helped(
         rounds,
-        with_help(
-            optional_number(alloc, "hot", MAX_HEAT),
-            "The heat at the first attempt [default: by the weights]",
-        ),
+        optional_number(alloc, "hot", MAX_HEAT),
+        "The heat at the first attempt [default: by the weights]",
     );
-    let cold = with(
+    let cold = with_helped(
         hot,
-        with_help(
-            optional_number(alloc, "cold", MAX_HEAT),
-            "The heat at the last attempt [default: by the weights]",
-        ),
+        optional_number(alloc, "cold", MAX_HEAT),
+        "The heat at the last attempt [default: by the weights]",
     );
-    let hard = with(
+    let hard = with_helped(
         cold,
-        with_help(
-            optional_number(alloc, "hard", MAX_HARD),
-            "The weight of a broken hard rule [default: by the weights]",
-        ),
+        optional_number(alloc, "hard", MAX_HARD),
+        "The weight of a broken hard rule [default: by the weights]",
     );
     start_description(alloc, hard)
 }
@@ -194,23 +168,29 @@ fn names_differ(improve: &Improve) -> bool
     }
 }
 
+/// The settings that the values give.
+pub(crate) fn given_settings(improve: &Improve) -> Given
+    ensures { result ≡ given_settings (improve_call improve.now) }
+{
+    Given {
+        seed: improve.seed,
+        workers: improve.workers,
+        attempts: improve.attempts,
+        rounds: improve.rounds,
+        hot: improve.hot,
+        cold: improve.cold,
+        hard: improve.hard,
+        freeze: improve.start.freeze,
+    }
+}
+
 // The attempts of all workers are so few, and the heat doesn't rise.
 fn are_settings_lawful(improve: &Improve) -> bool
     requires { AreOptionsWithin (improve_call improve.now) }
     ensures value { result ≡ are_settings_lawful (improve_call improve.now) }
     ensures lawful { result ≡ true → IsLawful (widest_settings (improve_call improve.now)) }
 {
-    let settings = Settings {
-        seed: improve.seed,
-        workers: improve.workers,
-        attempts: improve.attempts,
-        rounds: improve.rounds,
-        hot: improve.hot.unwrap_or(MAX_HEAT),
-        cold: improve.cold.unwrap_or(0),
-        hard: improve.hard.unwrap_or(MAX_HARD),
-        freeze: improve.start.freeze,
-    };
-    settings.is_lawful()
+    given_settings(improve).widest().is_lawful()
 }
 
 // What is unlawful of the values, where something is.

@@ -1,6 +1,7 @@
 //! The command `improve`: a search in rounds, each of which is told as it is over.
 
-ghost use Rattle.std.specs.Prelude.{◌≡◌, ◌+◌, IfOk};
+ghost use Rattle.std.specs.Prelude.{◌≡◌, ◌+◌, ◌≤◌, IfOk, IfSome, unwrap_or};
+ghost use Rattle.ih_plan.specs.Timetable.{IsPlanOf};
 ghost use Rattle.ih_shelf.specs.Outside.{IfTold};
 ghost use Rattle.ih_inputs.specs.Reading.{ArePlans, files_of};
 ghost use Rattle.ih_answers.specs.{Answers.HasShelfCause, Ends.Ends, Ends.HasCause, Ends.Received};
@@ -8,43 +9,46 @@ ghost use Rattle.ih_answers.specs.{Texts.ReceivedPart};
 ghost use Rattle.ih_frame.specs.Steps.{ArePutsAtMost};
 ghost use Rattle.ih_improve.specs.Settings.{IsLawful};
 ghost use Rattle.ih_planning.specs.Improve.{improve_call, improve_inputs, widest_settings};
-ghost use Rattle.ih_planning.specs.Searching.{AreSettingsOf, ImproveEnds, IsSearchFrom};
+ghost use Rattle.ih_planning.specs.Searching.{ImproveEnds, IsSearchFrom, begun};
 
-use crate::improve_words::Improve;
+use crate::improve_words::{Improve, given_settings};
 use crate::rounds::Search;
 use ih_answers::{Status, conclude, conclude_memory, read_or_answer};
 use ih_fill::fill;
 use ih_frame::go_on;
-use ih_improve::{Defaults, Improver, Settings};
+use ih_improve::{Improver, is_better};
 use ih_inputs::{InputNames, Inputs};
+use ih_plan::Plan;
 use ih_shelf::{Shelf, Sink};
 use ih_tables::Instance;
+use ih_validate::bill;
 use std::alloc::{AllocError, Global};
 use std::rt::Files;
 use std::sync::Wait;
 use std::thread::Threads;
 
-// The settings of the search. What isn't given comes from the weights. If one heat is given, the other lies on the
-// right side of it.
-fn settings_of(inst: &Instance, call: &Improve<'_>) -> Settings
-    requires { IsLawful (widest_settings (improve_call call.now)) }
-    ensures { AreSettingsOf inst.now.draft (improve_call call.now) result }
+// The fill of the timetable that is given, where the search starts from that.
+fn better_fill(
+    alloc: Global,
+    inst: &Instance,
+    hard: u32,
+    is_filled: bool,
+    given: &Plan,
+) -> Result<Option<Plan>, AllocError>
+    requires hard { hard ≤ 1000000 }
+    requires plan { IsPlanOf inst.now.draft given.now }
+    ensures start { IfOk result (λ o. unwrap_or o given.now ≡ begun is_filled hard inst.now.draft given.now) }
+    ensures plan { IfOk result (λ o. IfSome o (IsPlanOf inst.now.draft)) }
 {
-    let usual = Defaults::by_weights(inst);
-    Settings {
-        seed: call.seed,
-        workers: call.workers,
-        attempts: call.attempts,
-        rounds: call.rounds,
-        hot: call
-            .hot
-            .unwrap_or(usual.hot.max(call.cold.unwrap_or(usual.cold))),
-        cold: call
-            .cold
-            .unwrap_or(usual.cold.min(call.hot.unwrap_or(usual.hot))),
-        hard: call.hard.unwrap_or(usual.hard),
-        freeze: call.start.freeze,
+    if !is_filled {
+        return Ok(None);
     }
+    let filled = fill(alloc, inst, hard, given)?;
+    let before = bill(inst, given);
+    if before.feasible() && !is_better(inst, hard, &bill(inst, &filled), &before) {
+        return Ok(None);
+    }
+    Ok(Some(filled))
 }
 
 // The search of a call from what the files gave, before its first round.
@@ -62,13 +66,10 @@ fn search_from<'i, 'o>(
     ensures out { IfOk result (λ s. s.out ≡ call.entry.now.out) }
 {
     let inst = &*inputs.inst;
-    let settings = settings_of(inst, call);
-    let improver = if call.start.fill {
-        let filled = fill(alloc, inst, settings.hard, &inputs.plan)?;
-        Improver::new(alloc, inst, &filled, &settings)?
-    } else {
-        Improver::new(alloc, inst, &inputs.plan, &settings)?
-    };
+    let settings = given_settings(call).settings(inst);
+    let filled = better_fill(alloc, inst, settings.hard, call.start.fill, &inputs.plan)?;
+    let start = filled.as_ref().unwrap_or(&inputs.plan);
+    let improver = Improver::new(alloc, inst, start, &settings)?;
     Ok(Search {
         inst,
         out: call.out,

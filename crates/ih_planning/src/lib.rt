@@ -1,20 +1,15 @@
 //! The program for planners: one call that searches for better timetables and shows them.
 #![tactic(auto)]
 
-mod arguments;
-mod bound_texts;
-mod bound_words;
-mod bounding;
+mod bound;
 mod command;
-mod explaining;
 mod improve_words;
 mod improving;
 mod laws;
 mod limits;
 mod rounds;
 mod running;
-mod view_words;
-mod viewing;
+mod view;
 
 pub use laws::{
     determined_workers_leave_the_same, done_calls_have_improved, rounds_leave_their_best,

@@ -2,8 +2,8 @@
 
 ghost use Rattle.std.specs.Prelude.{◌≡◌};
 ghost use Rattle.ih_improve.specs.declared.settings.TheConstants.{MAX_ATTEMPTS, MAX_ROUNDS};
-ghost use Rattle.ih_planning.specs.declared.bound_words.TheConstants.{DEFAULT_BOUND_ROUNDS, DEFAULT_BOUND_WORKERS};
-ghost use Rattle.ih_planning.specs.declared.bound_words.TheConstants.{MAX_BOUND_ROUNDS};
+ghost use Rattle.ih_planning.specs.declared.bound.TheConstants.{DEFAULT_BOUND_ROUNDS, DEFAULT_BOUND_WORKERS};
+ghost use Rattle.ih_planning.specs.declared.bound.TheConstants.{MAX_BOUND_ROUNDS};
 ghost use Rattle.ih_planning.specs.declared.improve_words.TheConstants.{DEFAULT_ROUNDS};
 
 /// The limits of the words are these numbers, and these stand for what is left out: where a definition speaks of them by

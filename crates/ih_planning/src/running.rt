@@ -1,45 +1,20 @@
 //! The one call that does all that the program does.
 
-ghost use Rattle.std.specs.Prelude.{Some, map, string_bytes};
-ghost use Rattle.ih_answers.specs.{Answers.HasShelfCause, Ends.Ends, Ends.HasCause, Ends.Received};
-ghost use Rattle.ih_answers.specs.Texts.{ReceivedPart};
-ghost use Rattle.ih_planning.specs.Ends.{CallEnds, HasFewPuts, IsComplete, IsUntouched, Leaves};
-ghost use Rattle.ih_planning.specs.Words.{HasLawfulSettings, call_of, command_call};
+ghost use Rattle.std.specs.Prelude.{map, string_bytes};
 ghost use Rattle.ih_shelf.specs.Outside.{Rose};
+ghost use Rattle.ih_answers.specs.{Answers.HasShelfCause, Ends.HasCause, Ends.Received};
+ghost use Rattle.ih_answers.specs.Texts.{ReceivedPart};
+ghost use Rattle.ih_planning.specs.Calls.{call_of};
+ghost use Rattle.ih_planning.specs.Ends.{HasFewPuts, IsComplete, IsUntouched, Leaves};
 
-use crate::command::{Command, read_words};
-use crate::explaining::NoCall;
-use crate::improving::improve;
+use crate::command::{perform, read_words};
 use ih_answers::{Answer, Status, conclude, conclude_memory};
+use ih_arguments::explaining::NoCall;
 use ih_shelf::{Shelf, Sink};
 use std::alloc::Global;
 use std::rt::Files;
 use std::sync::Wait;
 use std::thread::Threads;
-
-// Does what the command asks for, and says how that ended.
-fn perform<R: Files + Print + Threads + Wait + Sync, S: Shelf, O: Sink>(
-    rt: &R,
-    alloc: Global,
-    command: &Command<'_>,
-    shelf: &mut S,
-    out: &mut O,
-) -> Status
-    requires { HasLawfulSettings command.now }
-    ensures ends { Ends (CallEnds (command_call command.now) (S.names shelf.old) (S.names shelf.new))
-        (HasShelfCause S.Shelf shelf.old shelf.new)
-        (Received result (O.text out.old) (O.text out.new) (O.faults out.old) (O.faults out.new))
-        (ReceivedPart (O.text out.old) (O.text out.new) (O.lacks out.old) (O.lacks out.new)) result }
-    ensures once { HasFewPuts (Some (command_call command.now)) (O.puts out.old) (O.puts out.new) }
-    ensures cause { HasCause (S.read_faults shelf.old) (S.read_faults shelf.new) (S.write_faults shelf.old)
-        (S.write_faults shelf.new) (O.faults out.old) (O.faults out.new) result }
-{
-    match command {
-        Command::Improve(call) => improve(rt, alloc, call, shelf, out),
-        Command::View(call) => ih_frame::perform(rt, alloc, call, shelf, out),
-        Command::Bound(call) => ih_frame::perform(rt, alloc, call, shelf, out),
-    }
-}
 
 /// Does all that the program does, by the words after its name. A search puts out a line after each round. At last one
 /// text is put out; where a page was written, there is none.

@@ -14,35 +14,20 @@ returns-in-Err-clause-faults g c =
     let simple = subst (λ (a : App). is_simple_and_free a ≡ true) (sym is) c.requires.1.0 in
     subst (λ (a : App). HasKind (fault_of a (map string_bytes c.args.words.now)) c.in-Err.error) is (c.in-Err.ensures.kinds simple)
 
-pub returns-in-Ok-clause-no_fault : goal.returns-in-Ok-clause-no_fault
-returns-in-Ok-clause-no_fault g c =
+pub returns-in-Ok-clause-matched : goal.returns-in-Ok-clause-matched
+returns-in-Ok-clause-matched g c =
+    let old = c.in_ok-command.command in
+    let m = c.in-Ok.matches in
     let is = rw c.in_ok-command.was at c.requires.0 in
     let simple = subst (λ (a : App). is_simple_and_free a ≡ true) (sym is) c.requires.1.0 in
-    ap (λ (a : App). has_no_fault a (map string_bytes c.args.words.now)) (sym is) ∙ no_fault_at (app_of c.in_ok-command.command) _ (c.in-Ok.ensures.kinds simple)
-
-pub returns-in-Ok-clause-rows : goal.returns-in-Ok-clause-rows
-returns-in-Ok-clause-rows g c =
-    let is = rw c.in_ok-command.was at c.requires.0 in
-    let simple = subst (λ (a : App). is_simple_and_free a ≡ true) (sym is) c.requires.1.0 in
-    (c.in-Ok.ensures.matches (simple_of (app_of c.in_ok-command.command) simple)).0 ∙ ap (λ (a : App). matches_of a (map string_bytes c.args.words.now)) is
-
-pub returns-in-Ok-clause-texts : goal.returns-in-Ok-clause-texts
-returns-in-Ok-clause-texts g c = λ k rule requires.
-    let is = rw c.in_ok-command.was at c.requires.0 in
-    required_text c.in_ok-command.command c.in-Ok.matches c.in-Ok.ensures.parsed
-    (subst (λ (a : App). has_independent_rules a ≡ true) (sym is) c.requires.1.1)
-    k rule (subst (λ (a : App). Requires a k rule) (sym is) requires)
-
-pub returns-in-Ok-clause-numbers : goal.returns-in-Ok-clause-numbers
-returns-in-Ok-clause-numbers g c = λ k rule low high requires.
-    let is = rw c.in_ok-command.was at c.requires.0 in
-    required_number c.in_ok-command.command c.in-Ok.matches c.in-Ok.ensures.parsed
-    (subst (λ (a : App). has_independent_rules a ≡ true) (sym is) c.requires.1.1)
-    k rule low high (subst (λ (a : App). RequiresNumber a k rule low high) (sym is) requires)
-
-pub returns-in-Ok-clause-optional : goal.returns-in-Ok-clause-optional
-returns-in-Ok-clause-optional g c = λ k rule low high takes.
-    let is = rw c.in_ok-command.was at c.requires.0 in
-    given_number c.in_ok-command.command c.in-Ok.matches c.in-Ok.ensures.parsed
-    (subst (λ (a : App). has_independent_rules a ≡ true) (sym is) c.requires.1.1)
-    k rule low high (subst (λ (a : App). TakesNumber a k rule low high) (sym is) takes)
+    let independent = subst (λ (a : App). has_independent_rules a ≡ true) (sym is) c.requires.1.1 in
+    record {
+      no_fault = ap (λ (a : App). has_no_fault a (map string_bytes c.args.words.now)) (sym is) ∙ no_fault_at (app_of old) _ (c.in-Ok.ensures.kinds simple);
+      rows = (c.in-Ok.ensures.matches (simple_of (app_of old) simple)).0 ∙ ap (λ (a : App). matches_of a (map string_bytes c.args.words.now)) is;
+      texts = λ k rule requires.
+          required_text old m c.in-Ok.ensures.parsed independent k rule (subst (λ (a : App). Requires a k rule) (sym is) requires);
+      numbers = λ k rule low high requires.
+          required_number old m c.in-Ok.ensures.parsed independent k rule low high (subst (λ (a : App). RequiresNumber a k rule low high) (sym is) requires);
+      optional = λ k rule low high takes.
+          given_number old m c.in-Ok.ensures.parsed independent k rule low high (subst (λ (a : App). TakesNumber a k rule low high) (sym is) takes);
+    }

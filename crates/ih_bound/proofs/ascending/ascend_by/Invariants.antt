@@ -9,4 +9,5 @@ abbrev pub invariant-loop-round : goal.invariant-loop-round
 invariant-loop-round g l = record {
   floors : All (HasFloors l.inst.draft l.rates) l.workers;
   best : (P : Timetable) → IsFeasible l.inst.draft P → l.best ≤ worth l.inst.draft l.rates P;
+  rounds : l.rounds ≤ l.effort.rounds;
 }

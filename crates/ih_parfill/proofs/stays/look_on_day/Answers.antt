@@ -1,4 +1,4 @@
-use Rattle.std.proofs.Common.{◌≡◌, ◌+◌, ◌∙◌, sym, subst, arith, refl, ℕ, List, ◌++◌, true, false}
+use Rattle.std.proofs.Common.{not, ◌≡◌, ◌+◌, ◌∙◌, ap, sym, subst, arith, refl, ℕ, List, ◌++◌, true, false}
 use Rattle.std.proofs.lemmas.List.{append-nil}
 use Rattle.ih_tables.specs.Sizes.{theatre_count}
 use Rattle.ih_plan.specs.declared.moves.Write.{Write}
@@ -28,7 +28,7 @@ loop-r-preserved c =
     let passed = before.passed in
     elim c.if-suits.branch [
       | then-suits w ↦
-          let yes : suits a r ≡ true = sym c.suits.ensures ∙ w.if-suits.true in
+          let yes : suits a r ≡ true = ap not (sym c.is_incompatible-suits.ensures ∙ w.if-suits.true) in
           let more = w.look_in_room.ensures.passed in
           record {
             looked = λ ws looked. subst (HasLooked I v (ws ++ stays_on I c.args.patient_no a c.args.day.0 (r + 1))) (sym w.scan-is)
@@ -39,7 +39,7 @@ loop-r-preserved c =
             worker = rw w.scan-is (w.look_in_room.ensures.worker ∙ before.worker);
           }
       | else-suits w ↦
-          let no : suits a r ≡ false = sym c.suits.ensures ∙ w.if-suits.false in
+          let no : suits a r ≡ false = ap not (sym c.is_incompatible-suits.ensures ∙ w.if-suits.false) in
           record {
             looked = λ ws looked. subst (HasLooked I v (ws ++ stays_on I c.args.patient_no a c.args.day.0 (r + 1))) (sym w.scan-is)
                 (subst (λ xs. HasLooked I v xs c.loop-r.scan) (room-same ws f a r no) (before.looked ws looked));

@@ -1,27 +1,27 @@
 use Rattle.std.proofs.Common.{◌∙◌, ap, arith, refl, subst, sym}
 use Rattle.ih_inputs.specs.Reading.{HasGiven, InputFiles, given_of}
+use Rattle.ih_improve.specs.Legs.{Leaves}
 use Rattle.ih_improve.specs.declared.settings.Settings.{Settings}
 use Rattle.ih_answers.specs.Answers.{Answers, HasShelfCause}
-use Rattle.ih_answers.specs.Ends.{Received}
 use Rattle.ih_answers.specs.Inputs.{EndsUnread}
-use Rattle.ih_answers.specs.Texts.{ReceivedPart}
 use Rattle.ih_answers.proofs.Files.{told-same}
-use Rattle.ih_planning.specs.Improve.{improve_call}
-use Rattle.ih_planning.proofs.ImproveCalls.{rounds-left, search-of, searched-ended, unbegun-ended, unread-ended}
+use Rattle.ih_frame.proofs.Begun.{begun-ended, unbegun-ended, unread-ended}
+use Rattle.ih_planning.specs.Improve.{improve_call, improve_inputs}
+use Rattle.ih_planning.specs.Rounds.{IsRound, IsSearched}
+use Rattle.ih_planning.specs.Searching.{IsSearch}
+use Rattle.ih_planning.proofs.SameSearches.{rounds-left, search-of}
 use Rattle.ih_planning.proofs.improving.improve.Goals as goal
 
 pub returns-in-Err-clause-ends : goal.returns-in-Err-clause-ends
 returns-in-Err-clause-ends g c =
+    let call = improve_call c.args.call.now in
     let old = c.args.shelf.now in
     let new = c.read_or_answer.new.shelf in
     let names = g.S.Shelf.names old in
-    let before = g.O.Sink.text c.args.out.now in
-    let after = g.O.Sink.text c.conclude.new.out in
     let unread = subst (λ (f : InputFiles). Answers (EndsUnread names f) c.in-Err.answer) c.names_of.ensures c.in-Err.ensures.unread in
-    unread-ended (improve_call c.args.call.now) names (g.S.Shelf.names new)
-    (Received c.conclude.result before after (g.O.Sink.faults c.args.out.now) (g.O.Sink.faults c.conclude.new.out))
-    (ReceivedPart before after (g.O.Sink.lacks c.args.out.now) (g.O.Sink.lacks c.conclude.new.out)) (HasShelfCause g.S.Shelf old new)
-    (told-same names (g.S.Shelf.names new) c.in-Err.ensures.only.kept) c.in-Err.answer unread c.conclude.result c.in-Err.ensures.cause c.conclude.ensures.said
+    unread-ended (IsSearch names call) (IsRound Leaves call.out) IsSearched call.rounds (improve_inputs call) names (g.S.Shelf.names new) _ _
+    (told-same names (g.S.Shelf.names new) c.in-Err.ensures.only.kept) (HasShelfCause g.S.Shelf old new) c.in-Err.answer unread c.conclude.result
+    c.in-Err.ensures.cause c.conclude.ensures.said
 
 pub go_on-requires-sync-R : goal.go_on-requires-sync-R
 go_on-requires-sync-R g c κs within =
@@ -46,27 +46,21 @@ returns-in-Ok-search_from-clause-ends g c =
     let new = c.go_on.new.shelf in
     let only = c.in-Ok.ensures.only in
     let same = only.other_count in
-    let before = g.O.Sink.text c.args.out.now in
-    let after = g.O.Sink.text c.go_on.new.out in
     let search = c.in-Ok-search_from.search in
     let read = subst (λ (f : InputFiles). HasGiven (g.S.Shelf.names old) f (given_of c.in-Ok.inputs)) c.names_of.ensures c.in-Ok.ensures.read in
-    searched-ended call (g.S.Shelf.names old) (g.S.Shelf.names mid) (g.S.Shelf.names new) only.kept search.improver
-    (search-of (g.S.Shelf.names old) call (given_of c.in-Ok.inputs) search.improver read c.in-Ok-search_from.ensures.search) search.out.now
-    (ap (λ t. t.now) c.in-Ok-search_from.ensures.out)
-    (Received c.go_on.result before after (g.O.Sink.faults c.args.out.now) (g.O.Sink.faults c.go_on.new.out))
-    (ReceivedPart before after (g.O.Sink.lacks c.args.out.now) (g.O.Sink.lacks c.go_on.new.out))
+    let is = search-of (g.S.Shelf.names old) call (given_of c.in-Ok.inputs) search.improver read c.in-Ok-search_from.ensures.search in
+    begun-ended (IsSearch (g.S.Shelf.names old) call) (IsRound Leaves call.out) IsSearched call.rounds (improve_inputs call) (g.S.Shelf.names old)
+    (g.S.Shelf.names new) _ _ (g.S.Shelf.names mid) only.kept search.improver is
     (g.S.Shelf.read_faults old) (g.S.Shelf.read_faults mid) (g.S.Shelf.read_faults new) (g.S.Shelf.write_faults old) (g.S.Shelf.write_faults mid)
-    (g.S.Shelf.write_faults new) only.count (omega (arith, same)) c.go_on.result c.go_on.ensures.ends
+    (g.S.Shelf.write_faults new) only.count (omega (arith, same)) c.go_on.result
+    (rw (ap (λ t. t.now) c.in-Ok-search_from.ensures.out) at c.go_on.ensures.ends)
 
 pub returns-clause-ends : goal.returns-clause-ends
 returns-clause-ends g c =
+    let call = improve_call c.args.call.now in
     let old = c.args.shelf.now in
     let new = c.read_or_answer.new.shelf in
     let names = g.S.Shelf.names old in
-    let before = g.O.Sink.text c.args.out.now in
-    let after = g.O.Sink.text c.conclude_memory.new.out in
-    unbegun-ended (improve_call c.args.call.now) names (g.S.Shelf.names new)
-    (Received c.conclude_memory.result before after (g.O.Sink.faults c.args.out.now) (g.O.Sink.faults c.conclude_memory.new.out))
-    (ReceivedPart before after (g.O.Sink.lacks c.args.out.now) (g.O.Sink.lacks c.conclude_memory.new.out)) (HasShelfCause g.S.Shelf old new)
-    (told-same names (g.S.Shelf.names new) c.in-Ok.ensures.only.kept) tt c.conclude_memory.ensures.said c.conclude_memory.result
-    c.conclude_memory.ensures.status
+    unbegun-ended (IsSearch names call) (IsRound Leaves call.out) IsSearched call.rounds (improve_inputs call) names (g.S.Shelf.names new) _ _
+    (told-same names (g.S.Shelf.names new) c.in-Ok.ensures.only.kept) (HasShelfCause g.S.Shelf old new) tt c.conclude_memory.ensures.said
+    c.conclude_memory.result c.conclude_memory.ensures.status

@@ -1,12 +1,23 @@
-use Rattle.std.proofs.Common.{◌≡◌, ◌∙◌, ap, subst, sym}
+use Rattle.std.proofs.Common.{◌≡◌, ◌∙◌, ap, subst, Option, Some, None}
+use Rattle.std.specs.Prelude.{IfSome, unwrap_or}
+use Rattle.std.specs.Borrow.{Bor}
+use Rattle.std.specs.Option.{option_copied}
 use Rattle.ih_tables.specs.declared.drafts.Draft.{Draft}
-use Rattle.ih_fill.specs.Fill.{fill}
-use Rattle.ih_fill.specs.Starts.{started}
-use Rattle.ih_planning.specs.Improve.{improve_call}
-use Rattle.ih_planning.specs.Searching.{AreSettingsOf}
+use Rattle.ih_plan.specs.Timetable.{Timetable}
+use Rattle.ih_improve.specs.Given.{AreSettingsOf}
+use Rattle.ih_planning.specs.Improve.{given_settings, improve_call}
+use Rattle.ih_planning.specs.Searching.{begun}
 use Rattle.ih_planning.proofs.SameSearches.{search-from}
 use Rattle.ih_planning.proofs.improving.search_from.Goals as goal
-use Rattle.ih_planning.proofs.improving.search_from.Goals.{then-call+in_ok-filled+in_ok-improver, else-call+in_ok-improver-2}
+
+-- what is behind a reference that may be left out
+behind : (o : Option Timetable) (r : Option (Bor Timetable)) (d : Bor Timetable) → option_copied r ≡ o → (unwrap_or r d).now ≡ unwrap_or o d.now
+behind o None d is = ap (λ (x : Option Timetable). unwrap_or x d.now) is
+behind o (Some b) d is = ap (λ (x : Option Timetable). unwrap_or x d.now) is
+
+one-of : (P : Timetable → Type 0) (o : Option Timetable) (d : Timetable) → IfSome o P → P d → P (unwrap_or o d)
+one-of P None d some other = other
+one-of P (Some x) d some other = some
 
 pub returns-clause-search : goal.returns-clause-search
 returns-clause-search c =
@@ -14,14 +25,9 @@ returns-clause-search c =
     let I = c.args.inputs.now.inst.value.draft in
     let J = c.deref-inst.result.now.draft in
     let P = c.args.inputs.now.plan in
-    let s = c.settings_of-settings.result in
+    let s = c.settings-settings.result in
     let same : J ≡ I = cc in
-    let settings = subst (λ (X : Draft). AreSettingsOf X call s) same c.settings_of-settings.ensures in
-    elim c.if-call.branch [
-      | then-call+in_ok-filled+in_ok-improver w ↦
-          search-from I J call P w.in_ok-filled.filled s c.if-call.improver (w.improver-is ∙ w.in_ok-improver.ensures) same settings
-          (w.in_ok-filled.ensures.filled ∙ ap (λ (X : Draft). fill X s.hard P) same ∙ ap (λ b. started b s.hard I P) (sym w.if-call.true))
-      | else-call+in_ok-improver-2 w ↦
-          search-from I J call P P s c.if-call.improver (w.improver-is ∙ w.in_ok-improver-2.ensures) same settings
-          (ap (λ b. started b s.hard I P) (sym w.if-call.false))
-    ]
+    let settings = subst (λ (X : Draft). AreSettingsOf X (given_settings call) s) same (rw c.given_settings.ensures at c.settings-settings.ensures) in
+    let start = ap (λ (b : Bor Timetable). b.now) c.unwrap_or-start.ensures ∙ behind c.in_ok-filled.filled _ _ c.as_ref.ensures.value in
+    search-from I J call P c.unwrap_or-start.result.now s c.in_ok-improver.improver c.in_ok-improver.ensures same settings
+    (start ∙ (c.in_ok-filled.ensures.start ∙ ap (λ (X : Draft). begun call.start.fill s.hard X P) same))

@@ -8,10 +8,9 @@ use Rattle.ih_answers.specs.declared.status.Status.TheVariants.{Done, Usage}
 use Rattle.ih_answers.proofs.Files.{told-same}
 use Rattle.ih_answers.proofs.Saying.{ended}
 use Rattle.ih_planning.specs.Ends.{Leaves, NoCallEnds}
-use Rattle.ih_planning.specs.Explaining.{IsExplained, app_for}
-use Rattle.ih_planning.specs.Words.{call_of, command_call}
-use Rattle.ih_planning.proofs.CallEnds.{memory-leaves, no_call-answerable, one-few, untouched}
-use Rattle.ih_planning.proofs.Completeness.{complete, memory-complete}
+use Rattle.ih_arguments.specs.Explaining.{IsExplained}
+use Rattle.ih_planning.specs.Calls.{app_for, call_of, command_call}
+use Rattle.ih_planning.proofs.Calls.{complete, memory-complete, memory-leaves, no_call-answerable, one-few, untouched}
 use Rattle.ih_planning.proofs.running.run_planner.Goals as goal
 
 pub returns-in-Ok-clause-leaves : goal.returns-in-Ok-clause-leaves

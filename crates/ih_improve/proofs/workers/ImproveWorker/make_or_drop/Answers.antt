@@ -1,6 +1,8 @@
-use Rattle.std.proofs.Common.{sym, subst}
-use Rattle.ih_plan.specs.Series.{AreMoves, after_all}
-use Rattle.ih_plan.specs.Frozen.{KeepsFrozen}
+use Rattle.std.proofs.Common.{◌≡◌, ◌∙◌, false, sym, subst}
+use Rattle.std.specs.List.{list_any}
+use Rattle.ih_plan.specs.Series.{AreMoves}
+use Rattle.ih_improve.specs.Frozen.{may_be_frozen}
+use Rattle.ih_improve.proofs.FrozenMoves.{keeps-all}
 use Rattle.ih_improve.proofs.Underway.{underway-more}
 use Rattle.ih_improve.proofs.workers.ImproveWorker.make_or_drop.Goals as goal
 
@@ -11,8 +13,9 @@ returns-then-score-most-clause-underway c =
     let ms = c.as_slice-moves.result.now in
     let on = c.requires.underway in
     let inside : AreMoves s.instance ms = subst (AreMoves s.instance) (sym c.as_slice-moves.ensures.moves) c.requires.moves in
-    let keeps = rw (c.instance-inst.ensures, c.start.ensures, c.settings-settings.ensures) at c.any_frozen.ensures in
-    let frozen : KeepsFrozen s.instance s.start s.settings.freeze (after_all s.instance v.now ms) = keeps v.now c.if-any_frozen.false on.now on.frozen in
+    let none : list_any (may_be_frozen s.start s.settings.freeze) ms ≡ false =
+    rw (c.start.ensures, c.settings-settings.ensures) at (sym c.any_frozen.ensures ∙ c.if-any_frozen.false) in
+    let frozen = keeps-all s.instance s.start s.settings.freeze ms inside none v.now on.now on.frozen in
     let same = c.price-price.ensures.same in
     let instance = rw same at c.make_moves.ensures.instance in
     let now = rw same at c.make_moves.ensures.now in

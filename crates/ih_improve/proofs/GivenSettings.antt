@@ -1,0 +1,61 @@
+-- Settings of which some are left out.
+use Rattle.std.proofs.Common.{◌≡◌, ◌∙◌, ◌≤◌, ℕ, sym, ap, subst, arith, Option, Some, None}
+use Rattle.std.specs.Prelude.{max, min, unwrap_or}
+use Rattle.ih_tables.specs.declared.drafts.Draft.{Draft}
+use Rattle.ih_plan.specs.declared.limits.TheConstants.{MAX_HARD, MAX_HEAT}
+use Rattle.ih_improve.specs.Defaults.{AreDefaults}
+use Rattle.ih_improve.specs.Given.{AreSettingsOf, settings_with, widest}
+use Rattle.ih_improve.specs.Settings.{IsLawful}
+use Rattle.ih_improve.specs.declared.defaults.Defaults.{Defaults}
+use Rattle.ih_improve.specs.declared.given.Given.{Given}
+use Rattle.ih_improve.specs.declared.settings.Settings.{Settings}
+use Rattle.ih_improve.proofs.WeightLemmas.{defaults-same}
+
+-- heats of which one that isn't given comes from the weights
+heats : (o p : Option ℕ) (hot cold : ℕ) → unwrap_or o MAX_HEAT ≤ MAX_HEAT → unwrap_or p 0 ≤ unwrap_or o MAX_HEAT → hot ≤ MAX_HEAT → cold ≤ hot
+    → (unwrap_or o (max hot (unwrap_or p cold)) ≤ MAX_HEAT)
+    × (unwrap_or p (min cold (unwrap_or o hot)) ≤ unwrap_or o (max hot (unwrap_or p cold)))
+heats None None hot cold most heat below fall = (omega arith, omega arith)
+heats None (Some q) hot cold most heat below fall = (omega arith, omega arith)
+heats (Some h) None hot cold most heat below fall = (omega arith, omega arith)
+heats (Some h) (Some q) hot cold most heat below fall = (omega arith, omega arith)
+
+given-most : (o : Option ℕ) (d most : ℕ) → unwrap_or o most ≤ most → d ≤ most → unwrap_or o d ≤ most
+given-most None d most limit below = below
+given-most (Some n) d most limit below = limit
+
+-- these settings are within their limits
+pub record AreWithin (d : Defaults) : Type 0 where
+  pub hot : d.hot ≤ MAX_HEAT
+  pub cold : d.cold ≤ d.hot
+  pub hard : d.hard ≤ MAX_HARD
+
+module _ (g : Given) (limits : IsLawful (widest g)) (d : Defaults) (within : AreWithin d) where
+  with-lawful : IsLawful (settings_with g d)
+  with-lawful =
+      let h = heats g.hot g.cold d.hot d.cold limits.hot limits.cold within.hot within.cold in
+      record {
+        some_worker = limits.some_worker;
+        workers = limits.workers;
+        some_round = limits.some_round;
+        rounds = limits.rounds;
+        attempts = limits.attempts;
+        hot = h.0;
+        cold = h.1;
+        hard = given-most g.hard d.hard MAX_HARD limits.hard within.hard;
+      }
+
+  -- where the code has values that equal these
+  pub settings-of : (I : Draft) → AreDefaults I d → (h k m : ℕ) → h ≡ unwrap_or g.hot (max d.hot (unwrap_or g.cold d.cold))
+      → k ≡ unwrap_or g.cold (min d.cold (unwrap_or g.hot d.hot)) → m ≡ unwrap_or g.hard d.hard
+      → AreSettingsOf I g (record (settings_with g d) { hot = h; cold = k; hard = m })
+  settings-of I by_weights h k m hot-is cold-is hard-is =
+      let are : record (settings_with g d) { hot = h; cold = k; hard = m } ≡ settings_with g d =
+      ap (λ (x : ℕ). record (settings_with g d) { hot = x; cold = k; hard = m }) hot-is
+      ∙ (ap (λ (x : ℕ). record (settings_with g d) { cold = x; hard = m }) cold-is ∙ ap (λ (x : ℕ). record (settings_with g d) { hard = x }) hard-is) in
+      record { lawful = subst IsLawful (sym are) with-lawful; defaults = d; by_weights = by_weights; are = are }
+
+pub settings-same : (I : Draft) (g : Given) (s t : Settings) → AreSettingsOf I g s → AreSettingsOf I g t → s ≡ t
+settings-same I g s t one other =
+    one.are
+    ∙ (ap (λ (d : Defaults). settings_with g d) (defaults-same I one.defaults other.defaults one.by_weights other.by_weights) ∙ sym other.are)

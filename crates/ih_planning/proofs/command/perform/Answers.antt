@@ -1,0 +1,19 @@
+use Rattle.ih_planning.proofs.command.perform.Goals as goal
+
+pub returns-in-Improve-clause-ends : goal.returns-in-Improve-clause-ends
+returns-in-Improve-clause-ends g c = rw c.in-Improve.is c.improve.ensures.ends
+
+pub returns-in-View-clause-ends : goal.returns-in-View-clause-ends
+returns-in-View-clause-ends g c = rw c.in-View.is c.perform.ensures.ends
+
+pub returns-in-Bound-clause-ends : goal.returns-in-Bound-clause-ends
+returns-in-Bound-clause-ends g c = rw c.in-Bound.is c.perform-in-Bound.ensures.ends
+
+pub returns-in-Improve-clause-once : goal.returns-in-Improve-clause-once
+returns-in-Improve-clause-once g c = rw c.in-Improve.is c.improve.ensures.few
+
+pub returns-in-View-clause-once : goal.returns-in-View-clause-once
+returns-in-View-clause-once g c = rw c.in-View.is c.perform.ensures.once
+
+pub returns-in-Bound-clause-once : goal.returns-in-Bound-clause-once
+returns-in-Bound-clause-once g c = rw c.in-Bound.is c.perform-in-Bound.ensures.once

@@ -1,0 +1,91 @@
+-- The calls of the program: each list has a line for each command.
+use Rattle.std.specs.Prelude.{◌≡◌, ◌⊎◌, true, List, Option, None, codes, if◌then◌else◌, option_map, slice_get}
+use Rattle.std.specs.Option.{option_map_or}
+use Rattle.std.specs.Str.{bytes_eq}
+use Rattle.clap.specs.Simple.{on_top}
+use Rattle.clap.specs.Words.{App, Text, new_app, with_subcommand}
+use Rattle.ih_arguments.specs.Matches.{by_first_word, call_by}
+use Rattle.ih_inputs.specs.Reading.{Given, InputFiles}
+use Rattle.ih_answers.specs.declared.status.Status.{Status}
+use Rattle.ih_answers.specs.declared.status.Status.TheVariants.{Done, Infeasible, NoneFound, OutOfMemory}
+use Rattle.ih_frame.specs.Outcomes.{OutcomeState}
+use Rattle.ih_improve.specs.Settings.{IsLawful}
+use Rattle.ih_planning.specs.Bound.{BoundCall, HasFewWorkers, IsBounded, bound_app, bound_call, bound_inputs, lawful_bound}
+use Rattle.ih_planning.specs.Improve.{ImproveCall, improve_app, improve_call, improve_inputs, lawful_improve, widest_settings}
+use Rattle.ih_planning.specs.View.{IsViewed, ViewCall, lawful_view, view_app, view_call, view_inputs}
+use Rattle.ih_planning.specs.declared.command.Command.{Command}
+use Rattle.ih_planning.specs.declared.command.Command.TheVariants.{Bound as BoundCommand, Improve as ImproveCommand, View as ViewCommand}
+
+-- a call of one of the commands
+pub data Call : Type 0 where
+  improve : ImproveCall → Call
+  view : ViewCall → Call
+  bound : BoundCall → Call
+
+-- the call that a command's values stand for
+abbrev pub command_call : Command → Call
+command_call (ImproveCommand i) = improve (improve_call i)
+command_call (ViewCommand v) = view (view_call v)
+command_call (BoundCommand b) = bound (bound_call b)
+
+-- the settings of a search, where the command has them, are within their limits, and so are its workers
+abbrev pub HasLawfulSettings : Command → Type 0
+HasLawfulSettings (ImproveCommand i) = IsLawful (widest_settings (improve_call i))
+HasLawfulSettings (BoundCommand b) = HasFewWorkers b
+HasLawfulSettings (ViewCommand v) = Unit {0}
+
+-- ---- the words that name them
+
+-- all commands, by which `clap` explains words of which the first is no command's name
+unfoldable pub program_app : App
+program_app =
+    with_subcommand (with_subcommand (with_subcommand
+    (on_top (λ s. record s { no_binary_name = true; subcommand_required = true; arg_required_else_help = true })
+    (new_app (codes "ih_planner")))
+    improve_app.top)
+    view_app.top)
+    bound_app.top
+
+-- the description of the command with this name, by which `clap` reads and explains the words
+abbrev pub app_named : Text → App
+app_named name =
+    if bytes_eq name (codes "improve") then improve_app
+    else (if bytes_eq name (codes "view") then view_app
+    else (if bytes_eq name (codes "bound") then bound_app
+    else program_app))
+
+-- the same of the words: the first is the command's name
+unfoldable pub app_for : List Text → App
+app_for words = option_map_or app_named (slice_get words 0) program_app
+
+-- the call of the command with this name
+abbrev pub call_named : Text → List Text → Option Call
+call_named name words =
+    if bytes_eq name (codes "improve") then option_map improve (call_by improve_app lawful_improve words)
+    else (if bytes_eq name (codes "view") then option_map view (call_by view_app lawful_view words)
+    else (if bytes_eq name (codes "bound") then option_map bound (call_by bound_app lawful_bound words)
+    else None))
+
+-- the call that the words name, where they are lawful: the first word is the command's name
+unfoldable pub call_of : List Text → Option Call
+call_of words = by_first_word call_named words
+
+-- ---- what they do
+
+-- the files that a call reads
+abbrev pub inputs_of : Call → InputFiles
+inputs_of (improve c) = improve_inputs c
+inputs_of (view v) = view_inputs v
+inputs_of (bound b) = bound_inputs b
+
+-- what a call comes to that has one outcome: improve has one for each round
+abbrev pub comes_to : Call → Given → OutcomeState → Type 0
+comes_to (improve c) = λ g o. ⊥
+comes_to (view v) = IsViewed v
+comes_to (bound b) = IsBounded b
+
+-- the answers of a call that has all that it needs
+abbrev pub IsAnswered : Call → Status → Type 0
+IsAnswered (improve c) status = (status ≡ Done) ⊎ (status ≡ NoneFound) ⊎ (status ≡ OutOfMemory)
+IsAnswered (view v) status = (status ≡ Done) ⊎ (status ≡ OutOfMemory)
+IsAnswered (bound b) status = (status ≡ Done) ⊎ (status ≡ Infeasible) ⊎ (status ≡ OutOfMemory)
