@@ -13,7 +13,7 @@ import tempfile
 
 TOP = os.path.dirname(os.path.dirname(os.path.abspath(__file__)))
 EXAMPLES = os.path.join(TOP, "examples")
-TEST = "crates/ih_format_tests/src/tests/examples.rt"
+TEST = "crates/ih_program_tests/src/tests/examples.rt"
 IH = os.environ.get("IH", os.path.join(TOP, "crates/ih_main/out/ih_main"))
 
 
@@ -40,9 +40,9 @@ def other_texts(formats):
     for name, block in shown_files(formats):
         if block != read("examples", name):
             yield f"docs/FORMATS.md doesn't show examples/{name} as it is"
-        if f'r#"{block}"#' not in test:
+        if f"\n{block}" not in test:
             yield f"{TEST} has another {name}"
-    if f'r#"{report_in(formats)}"#' not in test:
+    if f"\n{report_in(formats)}>" not in test:
         yield f"{TEST} has another report"
 
 

@@ -3,13 +3,13 @@
 #![tactic(auto)]
 
 mod bills;
-mod small;
+mod cuts;
 mod starts;
 mod texts;
 mod two;
 
 pub use bills::is_dearer_by;
-pub use small::on_one_room;
+pub use cuts::{cut, put_changed};
 pub use starts::{at, first_day, on_first_admitted};
 pub use texts::{TWO_PATIENTS, WARD};
 pub use two::on_two_patients;

@@ -61,7 +61,7 @@ fn with_first_admitted<F: FnOnce(&Instance, &Plan) -> bool>(
 pub fn on_first_admitted<F: FnOnce(&Instance, &Plan) -> bool>(alloc: Global, holds: F) -> bool
     requires { (i : _) (p : _) → IsOfTwo i.now.draft → IsPlanOf i.now.draft p.now → F.pre holds i p }
 {
-    match two_patients(alloc, &[]) {
+    match two_patients(alloc) {
         Some(inst) => with_first_admitted(alloc, &inst, holds),
         None => false,
     }

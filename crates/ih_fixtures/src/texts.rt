@@ -36,24 +36,3 @@ pub const TWO_PATIENTS: &str =
 "working_shifts":[{"day":0,"shift":"early","max_load":10},{"day":0,"shift":"late","max_load":10},{"day":0,
 "shift":"night","max_load":10},{"day":1,"shift":"early","max_load":10},{"day":1,"shift":"late","max_load":10},
 {"day":1,"shift":"night","max_load":10}]}]}"#;
-
-/// One day, a theatre, a room, and a nurse who works in all shifts.
-pub(crate) const ONE_ROOM: &str =
-    r#"{"days":1,"skill_levels":3,"shift_types":["early","late","night"],
-"age_groups":["child","adult","old"],
-"weights":{"room_mixed_age":5,"room_nurse_skill":10,"continuity_of_care":2,
-"nurse_eccessive_workload":1,"open_operating_theater":30,"surgeon_transfer":7,
-"patient_delay":4,"unscheduled_optional":100},
-"occupants":[],"patients":[],
-"surgeons":[{"id":"s0","max_surgery_time":[100]}],
-"operating_theaters":[{"id":"t0","availability":[60]}],
-"rooms":[{"id":"r0","capacity":2}],
-"nurses":[{"id":"n0","skill_level":0,"working_shifts":[
-{"day":0,"shift":"early","max_load":3},{"day":0,"shift":"late","max_load":3},
-{"day":0,"shift":"night","max_load":3}]}]}"#;
-
-/// What stands behind the name of an optional patient of that ward.
-pub(crate) const REST_OF_PATIENT: &str =
-    r#""mandatory":false,"gender":"A","age_group":"child","length_of_stay":1,
-"surgery_release_day":0,"surgery_duration":40,"surgeon_id":"s0","incompatible_room_ids":[],
-"workload_produced":[1,1,1],"skill_level_required":[0,0,0]"#;

@@ -1,3 +1,2 @@
 mod RoomDayChanges
-mod TheatreChanges
 mod TwoStays

@@ -46,6 +46,9 @@ module _ {L : Type 0} (Stands : Timetable → L → Type 0) (I : Draft) (here be
   abbrev Leaves : L → L → Type 0
   Leaves before after = (P : Timetable) → Stands P before → stay_of P 0 ≡ Some here → Stands (put (SetStay p0 None) P) after
 
+  pub first-in : (new one : L) → Stands (empty I) new → Comes new one → (P : Timetable) × Stands P one
+  first-in new one stands comes = (first I here beside, comes (empty I) stands (nobody I here beside))
+
   pub may-join : (new one : L) → Stands (empty I) new → Comes new one → (P : Timetable) × Stands P one × (stay_of P 1 ≡ None)
   may-join new one stands comes = (first I here beside, comes (empty I) stands (nobody I here beside), second-out I here beside)
 

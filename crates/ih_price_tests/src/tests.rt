@@ -6,8 +6,6 @@ mod fill;
 mod footprint;
 mod ledgers;
 mod links;
-mod moves;
 mod nurses;
-mod plan;
 mod roomdays;
 mod theatres;

@@ -2,6 +2,7 @@
 
 mod advice;
 mod chains;
+mod examples;
 mod files;
 mod fills;
 mod journals;

@@ -1,44 +1,46 @@
 //! Files that are laid out before a call.
 
 use crate::examples::given;
+use crate::held::text_under;
+use ih_fixtures::put_changed;
 use ih_shelf::MemShelf;
 use std::alloc::{AllocError, Global};
 
-fn changed(alloc: Global, text: &str, from: &str, to: &str) -> Result<String, AllocError> {
-    let mut made = String::new(alloc);
-    match text.split_once(from) {
-        None => made.push_str(text)?,
-        Some((before, after)) => {
-            made.push_str(before)?;
-            made.push_str(to)?;
-            made.push_str(after)?;
-        }
+// The text that the name has among the examples, or else on the shelf.
+fn text_of<'a>(shelf: &'a MemShelf, name: &str) -> &'a str {
+    let example = given(name);
+    if example.is_empty() {
+        text_under(shelf, name).unwrap_or("")
+    } else {
+        example
     }
-    Ok(made)
 }
 
-/// Stores the text under the name, in which `to` stands where `from` stood.
-pub(crate) fn store_changed(
+/// Whether a name gets the text of a file, in which `to` stands where `from` stood, and that stood there.
+pub(crate) fn change(
     alloc: Global,
     shelf: &mut MemShelf,
     name: &str,
-    text: &str,
+    file: &str,
     from: &str,
     to: &str,
-) -> Result<(), AllocError> {
-    let made = changed(alloc, text, from, to)?;
-    shelf.store(name, made.as_bytes())
+) -> bool {
+    let mut made = String::new(alloc);
+    matches!(
+        put_changed(&mut made, text_of(shelf, file), from, to),
+        Ok(true)
+    ) && shelf.store(name, made.as_bytes()).is_ok()
 }
 
-/// Stores the text under the name, with a line feed at its end.
-pub(crate) fn store_lines(
+/// Stores the name's text with another behind it.
+pub(crate) fn add(
     alloc: Global,
     shelf: &mut MemShelf,
     name: &str,
     text: &str,
 ) -> Result<(), AllocError> {
-    let mut made = String::from_str(alloc, text)?;
-    made.push_str("\n")?;
+    let mut made = String::from_str(alloc, text_of(shelf, name))?;
+    made.push_str(text)?;
     shelf.store(name, made.as_bytes())
 }
 

@@ -36,7 +36,12 @@ const JOURNAL: &str = "ihjournal 1 seed=0 workers=1 moves=2 heat=0 hard=1000
 1 0 1 1 nurse:0,2,0 0,0,0,0,0,0,0,0,0,0,0,0,0,0,0,0,0 accepted
 ";
 
-// What is said of it.
+// The same without its last line.
+const ONE_ENTRY: &str = "ihjournal 1 seed=0 workers=1 moves=2 heat=0 hard=1000
+0 0 0 0 nurserun:0,0,0,5 0,0,0,0,0,0,0,0,-3,0,1,1,0,0,0,0,0 accepted
+";
+
+// What is said of the search.
 const FOUND: &str =
     "best 1 of 2\nV1 0\nV2 0\nV3 0\nV4 0\nV5 0\nV6 0\nV7 0\nV8 0\nV9 0\nS1 0 x 5 = 0\nS2 1 x 10 = 10\nS3 1 x 2 = 2\nS4 0 x 1 = 0\nS5 0 x 30 = 0\nS6 0 x 7 = 0\nS7 0 x 4 = 0\nS8 0 x 100 = 0\ncost 12\n";
 
@@ -68,6 +73,7 @@ pub fn given(name: &str) -> &'static str {
         "usage" => USAGE,
         "checked" => CHECKED,
         "journal" => JOURNAL,
+        "one-entry" => ONE_ENTRY,
         "found" => FOUND,
         "salvaged" => SALVAGED,
         "demo" => DEMO,

@@ -2,6 +2,7 @@
 
 use crate::texts::{are_lines, are_text};
 use ih_shelf::MemShelf;
+use std::alloc::Global;
 
 /// Whether the name has such a text, without a line feed at its end.
 pub(crate) fn holds(shelf: &MemShelf, name: &str, text: &str) -> bool {
@@ -12,9 +13,9 @@ pub(crate) fn holds(shelf: &MemShelf, name: &str, text: &str) -> bool {
 }
 
 /// Whether the name has such lines, each with its line feed.
-pub(crate) fn holds_lines(shelf: &MemShelf, name: &str, text: &str) -> bool {
+pub(crate) fn holds_lines(alloc: Global, shelf: &MemShelf, name: &str, text: &str) -> bool {
     match shelf.get(name) {
-        Some(bytes) => are_lines(bytes, text),
+        Some(bytes) => are_lines(alloc, bytes, text),
         None => false,
     }
 }

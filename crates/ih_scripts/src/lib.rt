@@ -4,22 +4,25 @@
 //!
 //! Each event begins on a line of its own behind `> `, and the lines below it are its text. `= NAME` in place of a text
 //! is the text of that name in examples.rt. Of a text with three dots (one sign) only what stands before and behind them
-//! counts.
+//! counts. In lines that are said or had, `report V1 .. V9, S1 .. S8, COST` is that report on a small ward. A FILE is a
+//! text of examples.rt, or else what the name has.
 //!
 //! | event | what it does, or what is then so |
 //! |---|---|
+//! | `anew` | there are no files, and nothing is to fail |
 //! | `store NAME` | the name gets the text, without a line feed at its end |
-//! | `write NAME` | the name gets the lines, each with its line feed |
+//! | `add NAME` | the name gets the text behind what it has |
 //! | `lay INSTANCE SOLUTION` | `i` and `s` get the texts of these names |
-//! | `change NAME FILE` | the name gets the text of FILE, with the second line in place of the first |
+//! | `change NAME FILE` | the name gets the text of FILE, in which the first line gives way to the second |
 //! | `spaces NAME N` | the name gets so many spaces |
 //! | `fail-read N`, `fail-write N KEPT` | the read, or the write, of this number is to fail, and to leave so many bytes |
 //! | `CODE CALL` | the call ends with this status and says these lines, in one put |
 //! | `says CODE CALL` | the same in any number of puts |
 //! | `cut PUT CODE CALL` | the same where the put of this number fails |
+//! | `changes NAME FILE CODE CALL` | the same for each row `FROM \| TO \| LINE`, and the call then ends so and says LINE |
 //! | `each CODE LINE` | each call of the text ends with this status and says this line |
 //! | `alike` | two calls are done and say the same |
-//! | `replays CALL` | each search of the text and this replay are done, say the same, and leave one solution |
+//! | `replays` | the replay of the first line and each search below are done, say the same, and leave one solution |
 //! | `hold N CALL` | the call is done past a gate that holds worker 0's attempts of the numbers below N |
 //! | `meet N CALL`, `pass N CALL` | past a gate at which N workers meet, or which each of two workers passes N times |
 //! | `is NAME`, `has NAME`, `no NAME` | the name has the text, has the lines, or isn't there |
@@ -40,7 +43,7 @@ mod gates;
 mod held;
 mod meeting;
 mod pairs;
-mod past_gates;
+mod reports;
 mod script;
 mod texts;
 

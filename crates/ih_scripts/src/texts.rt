@@ -1,6 +1,8 @@
 //! What a script says of a text.
 
 use crate::examples::given;
+use crate::reports::spelled_out;
+use std::alloc::Global;
 
 /// The text of a name behind an equals sign, or else the text itself.
 pub(crate) fn meant(text: &str) -> &str {
@@ -29,19 +31,14 @@ pub(crate) fn are_text(bytes: &[u8], text: &str) -> bool {
 }
 
 /// Whether the bytes are such lines, each with its line feed. No text is no line.
-pub(crate) fn are_lines(bytes: &[u8], text: &str) -> bool {
-    if text.starts_with("= ") {
+pub(crate) fn are_lines(alloc: Global, bytes: &[u8], text: &str) -> bool {
+    if text.is_empty() || text.starts_with("= ") {
         return are_text(bytes, text);
     }
-    match bytes.split_last() {
-        Some((last, lines)) => *last == b'\n' && are_like(lines, text),
-        None => text.is_empty(),
+    match spelled_out(alloc, text) {
+        Ok(lines) => are_like(bytes, lines.as_str()),
+        Err(_) => false,
     }
-}
-
-/// What stands before and behind the first of these, or all and nothing.
-pub(crate) fn cut<'a>(text: &'a str, at: &str) -> (&'a str, &'a str) {
-    text.split_once(at).unwrap_or((text, ""))
 }
 
 /// The number that a word is.

@@ -1,7 +1,7 @@
 //! What is answered for the files of two small instances after one change.
 
-use crate::tests::rows::{cut, none_is_wrong};
-use ih_fixtures::{TWO_PATIENTS, WARD};
+use crate::tests::rows::none_is_wrong;
+use ih_fixtures::{TWO_PATIENTS, WARD, cut, put_changed};
 use ih_instance::{InstanceError, read_instance};
 use std::alloc::{AllocError, Global};
 
@@ -21,20 +21,11 @@ fn is_read_so(alloc: Global, file: &[u8], wanted: &str) -> bool {
     }
 }
 
-// The text in which one part is replaced, or none where there is no such part.
-fn changed(alloc: Global, text: &str, old: &str, new: &str) -> Result<Option<String>, AllocError> {
-    match text.split_once(old) {
-        Some((before, after)) => Ok(Some(format!(in alloc; "{before}{new}{after}")?)),
-        None => Ok(None),
-    }
-}
-
 /// Whether that is answered for such a text.
 pub(crate) fn is_answered(alloc: Global, text: &str, old: &str, new: &str, wanted: &str) -> bool {
-    match changed(alloc, text, old, new) {
-        Ok(Some(file)) => is_read_so(alloc, file.as_bytes(), wanted),
-        _ => false,
-    }
+    let mut file = String::new(alloc);
+    matches!(put_changed(&mut file, text, old, new), Ok(true))
+        && is_read_so(alloc, file.as_bytes(), wanted)
 }
 
 // The first row that isn't so: what stands in a text, what is put in its place, and what is then answered.
@@ -67,10 +58,8 @@ const NAMES: &str = r#"
 // Changes of patients.
 const PATIENTS: &str = r#"
 [2,2,2,2,2,2] | [2,2,2,2,2,2,"x"] | accepted
-[2,2,2,2,2,2] | [2,2,2,2,2] | Length at $.patients[0].workload_produced
 "surgery_due_day":1, |  | Missing at $.patients[0].surgery_due_day
 "surgery_duration":40, | "surgery_due_day":"x","surgery_duration":40, | accepted
-40,"surgeon_id":"s0" | 40,"surgeon_id":"s1" | Unknown at $.patients[1].surgeon_id
 "#;
 
 #[test]

@@ -1,11 +1,13 @@
 //! Headings, lines and moves of journals, as the worked examples have them.
 
-use crate::tests::rows::cut;
-use ih_fixtures::WARD;
+ghost use Rattle.std.specs.Prelude.{◌^◌};
+ghost use Rattle.ih_tables.specs.Bills.{IsWithin};
+
+use ih_fixtures::{WARD, cut};
 use ih_instance::read_instance;
 use ih_journal::{BadLine, Entry, Options, Verdict, head_line, line, parse_line, parse_move, text};
 use ih_plan::Move;
-use ih_tables::{Bill, Day, Instance, NurseNo, RoomNo, Shift};
+use ih_tables::{Day, Instance, NurseNo, RoomNo, Shift};
 use std::alloc::{AllocError, Global};
 
 const OPTIONS: Options = Options {
@@ -23,20 +25,16 @@ const RETRYING: Options = Options {
 };
 
 // The first entry of a search on the ward of one day.
-const FIRST: Entry = Entry {
-    worker: 0,
-    number: 0,
-    again: 0,
-    seen: 0,
-    mv: Move::NurseRun(NurseNo(0), RoomNo(0), Day(0), 5),
-    price: Bill {
-        v: [0, 0, 0, 0, 0, 0, 0, 0, -3],
-        s: [0, 1, 1, 0, 0, 0, 0, 0],
-    },
-    verdict: Verdict::Accepted,
-};
-
 const FIRST_LINE: &str = "0 0 0 0 nurserun:0,0,0,5 0,0,0,0,0,0,0,0,-3,0,1,1,0,0,0,0,0 accepted";
+
+// Whether the entry has each field of that line.
+fn is_first(entry: &Entry) -> bool {
+    (entry.worker, entry.number, entry.again, entry.seen) == (0, 0, 0, 0)
+        && entry.mv == Move::NurseRun(NurseNo(0), RoomNo(0), Day(0), 5)
+        && entry.price.v == [0, 0, 0, 0, 0, 0, 0, 0, -3]
+        && entry.price.s == [0, 1, 1, 0, 0, 0, 0, 0]
+        && entry.verdict == Verdict::Accepted
+}
 
 // Both headings, that line, and a move.
 const WRITTEN: &str = "ihjournal 1 seed=0 workers=1 moves=2 heat=0 hard=1000
@@ -44,21 +42,22 @@ ihjournal 2 seed=0 workers=1 moves=2 heat=0 hard=1000 retries=1
 0 0 0 0 nurserun:0,0,0,5 0,0,0,0,0,0,0,0,-3,0,1,1,0,0,0,0,0 accepted
 swapnurses:7,0,12";
 
-fn write_all(out: &mut Vec<u8>) -> Result<(), AllocError> {
+// The headings, an entry and a move.
+fn write_all(entry: &Entry, out: &mut Vec<u8>) -> Result<(), AllocError>
+    requires { IsWithin (10 ^ 11) entry.now.price }
+{
     head_line(&OPTIONS, out)?;
     head_line(&RETRYING, out)?;
-    line(&OPTIONS, 0, &FIRST, out)?;
+    line(&OPTIONS, 0, entry, out)?;
     text(&Move::SwapNurses(Shift(7), RoomNo(0), RoomNo(12)), out)
 }
 
-fn are_written(alloc: Global) -> bool {
+// Whether an entry is that of the first line, and is written so again.
+fn is_written(alloc: Global, entry: &Entry) -> bool
+    requires { IsWithin (10 ^ 11) entry.now.price }
+{
     let mut out = Vec::new(alloc);
-    write_all(&mut out).is_ok() && out.as_slice() == WRITTEN.as_bytes()
-}
-
-#[test]
-fn headings_lines_and_moves_are_written(rt: HostRuntime) {
-    assert!(rt; are_written(rt.alloc()));
+    is_first(entry) && write_all(entry, &mut out).is_ok() && out.as_slice() == WRITTEN.as_bytes()
 }
 
 // Texts that are no lines, and the first field of each that is wrong: that line with a double space, and with an eighth
@@ -105,17 +104,9 @@ fn are_no_lines(inst: &Instance, options: &Options, table: &str) -> bool {
     true
 }
 
-// Whether the entry has each field of the first one.
-fn is_first(entry: &Entry) -> bool {
-    (entry.worker, entry.number, entry.again, entry.seen) == (0, 0, 0, 0)
-        && entry.mv == FIRST.mv
-        && entry.price == FIRST.price
-        && entry.verdict == FIRST.verdict
-}
-
-fn is_first_read(inst: &Instance) -> bool {
+fn is_first_read(alloc: Global, inst: &Instance) -> bool {
     match parse_line(inst, &OPTIONS, FIRST_LINE.as_bytes()) {
-        Ok((0, entry)) => is_first(&entry),
+        Ok((0, entry)) => is_written(alloc, &entry),
         _ => false,
     }
 }
@@ -124,7 +115,7 @@ fn is_first_read(inst: &Instance) -> bool {
 fn are_read(alloc: Global) -> bool {
     match read_instance(alloc, WARD.as_bytes()) {
         Ok(inst) => {
-            is_first_read(&inst)
+            is_first_read(alloc, &inst)
                 && are_no_lines(&inst, &OPTIONS, NO_LINES)
                 && are_no_lines(&inst, &RETRYING, NO_TRIES)
                 && parse_move(&inst, b"nurse:0,3,0").is_none()

@@ -1,8 +1,8 @@
 //! The greatest number, the longest name and the longest list at each key of an instance file, and one more.
 
 use crate::tests::instance::is_answered;
-use crate::tests::rows::{cut, none_is_wrong};
-use ih_fixtures::{TWO_PATIENTS, WARD};
+use crate::tests::rows::none_is_wrong;
+use ih_fixtures::{TWO_PATIENTS, WARD, cut};
 use std::alloc::{AllocError, Global};
 
 // Numbers of the ward of one day: what stands in the file, what has the greatest number in its place, what has one

@@ -35,7 +35,7 @@ fn is_too_long<R: Files, S: Shelf>(
 }
 
 fn faults<R: Files, S: Shelf>(rt: &R, alloc: Global, shelf: &mut S, name: &str) -> bool {
-    matches!(shelf.read(rt, alloc, name, 9), Err(ReadError::Fault))
+    matches!(shelf.read(rt, alloc, name, 4), Err(ReadError::Fault))
 }
 
 // Whether what is written under a name is read again.

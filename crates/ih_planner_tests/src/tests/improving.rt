@@ -12,24 +12,7 @@ const ON_THE_WARD: &str = "
 > says 0 improve i o --seed 0 --workers 1 --attempts 1000 --rounds 2 --hot 0 --cold 0
 round 1 of 2: 500 attempts, cost 12, heat 0
 round 2 of 2: 1000 attempts, cost 12, heat 0
-V1 0
-V2 0
-V3 0
-V4 0
-V5 0
-V6 0
-V7 0
-V8 0
-V9 0
-S1 0 x 5 = 0
-S2 1 x 10 = 10
-S3 1 x 2 = 2
-S4 0 x 1 = 0
-S5 0 x 30 = 0
-S6 0 x 7 = 0
-S7 0 x 4 = 0
-S8 0 x 100 = 0
-cost 12
+report 0 0 0 0 0 0 0 0 0, 0 1 1 0 0 0 0 0, 12
 > is o
 = covered
 > # the fault comes up with the next write
@@ -77,24 +60,7 @@ const ON_TWO: &str = r#"
 > says 0 improve i o --seed 0 --workers 1 --attempts 2000 --rounds 2 --hot 50 --cold 1 --start s
 round 1 of 2: 1000 attempts, cost 70, heat 7
 round 2 of 2: 2000 attempts, cost 70, heat 1
-V1 0
-V2 0
-V3 0
-V4 0
-V5 0
-V6 0
-V7 0
-V8 0
-V9 0
-S1 0 x 5 = 0
-S2 0 x 10 = 0
-S3 3 x 2 = 6
-S4 0 x 1 = 0
-S5 2 x 30 = 60
-S6 0 x 7 = 0
-S7 1 x 4 = 4
-S8 0 x 100 = 0
-cost 70
+report 0 0 0 0 0 0 0 0 0, 0 0 3 0 2 0 1 0, 70
 > says 0 bound i o
 no feasible timetable costs less than 56
 …
@@ -103,24 +69,7 @@ this one costs 70, at most 25.0 % above the best
 > says 0 improve i o --seed 0 --workers 2 --attempts 2000 --rounds 2 --hot 0 --cold 0 --start s --freeze 1
 round 1 of 2: 2000 attempts, cost 95, heat 0
 round 2 of 2: 4000 attempts, cost 95, heat 0
-V1 0
-V2 0
-V3 0
-V4 0
-V5 0
-V6 0
-V7 0
-V8 0
-V9 0
-S1 1 x 5 = 5
-S2 2 x 10 = 20
-S3 3 x 2 = 6
-S4 0 x 1 = 0
-S5 2 x 30 = 60
-S6 0 x 7 = 0
-S7 1 x 4 = 4
-S8 0 x 100 = 0
-cost 95
+report 0 0 0 0 0 0 0 0 0, 1 2 3 0 2 0 1 0, 95
 > is o
 {"nurses":[{"assignments":[{"day":0,"rooms":["r0"],"shift":"early"},{"day":0,"rooms":["r0"],"shift":"late"},{"day":0,"rooms":["r0"],"shift":"night"},{"day":1,"rooms":["r0"],"shift":"early"},{"day":1,"rooms":["r0"],"shift":"late"},{"day":1,"rooms":["r0"],"shift":"night"}],"id":"n0"},{"assignments":[{"day":1,"rooms":["r1"],"shift":"early"},{"day":1,"rooms":["r1"],"shift":"late"},{"day":1,"rooms":["r1"],"shift":"night"}],"id":"n1"}],"patients":[{"admission_day":0,"id":"p0","operating_theater":"t0","room":"r0"},{"admission_day":1,"id":"p1","operating_theater":"t…","room":"r1"}]}
 > change i two

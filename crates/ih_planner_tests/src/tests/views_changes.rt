@@ -58,11 +58,6 @@ changed</h2>
 <p class=m>Nothing changed.</p>
 <h3>Patients
 > shows p
-theatre</h3>
-<ul>
-</ul>
-<h3>Shifts
-> shows p
 <tr><th>cost<td>the eight products, summed<td>159<td>159
 <
 "#;

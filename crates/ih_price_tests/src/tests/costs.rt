@@ -1,7 +1,7 @@
 //! Moves on a ward of two patients, of whom the first is admitted, with one nurse in all shifts.
 
-ghost use Rattle.std.specs.Prelude.{◌≡◌, ◌^◌};
-ghost use Rattle.ih_tables.specs.{Bills.IsWithin, Sizes.sizes_of};
+ghost use Rattle.std.specs.Prelude.{◌≡◌};
+ghost use Rattle.ih_tables.specs.Sizes.{sizes_of};
 ghost use Rattle.ih_plan.specs.{Expand.IsMoveOf, Timetable.IsPlanOf};
 ghost use Rattle.ih_fixtures.specs.Two.{IsOfTwo};
 
@@ -9,8 +9,8 @@ use crate::tests::bills::{FREE, KEPT, has};
 use ih_costs::Ledgers;
 use ih_fixtures::{first_day, on_first_admitted, share};
 use ih_footprint::{CellList, Numbering};
-use ih_plan::{Move, Plan, Write};
-use ih_tables::{Bill, Day, Instance, NurseNo, PatientNo, RoomNo, Shift};
+use ih_plan::{Move, Plan};
+use ih_tables::{Day, Instance, NurseNo, PatientNo, RoomNo, Shift};
 use std::alloc::Global;
 
 // Both genders in a room with too few beds.
@@ -65,51 +65,12 @@ fn prices_are_right(inst: &Instance, ledgers: &mut Ledgers<'_>, foot: &mut CellL
     joined && nursed && nothing
 }
 
-// The costs while the first patient alone is admitted.
-const ALONE: &str = "1 2 2 0 1 0 0 1";
-
-// Whether a bill costs so much, has this score, and is feasible where that is said.
-fn comes_to(inst: &Instance, bill: &Bill, cost: i64, score: i64, feasible: bool) -> bool
-    requires { IsWithin (10 ^ 11) bill.now }
-{
-    bill.cost(inst.weights()) == cost
-        && bill.score(1_000, inst.weights()) == score
-        && bill.feasible() == feasible
-}
-
-// Whether the bill follows the second patient, who joins the first and leaves again.
-fn bills_follow(inst: &Instance, ledgers: &mut Ledgers<'_>) -> bool
-    requires instance { ledgers.old.instance ≡ inst.now.draft }
-    requires two { IsOfTwo inst.now.draft }
-{
-    let before = ledgers.total();
-    ledgers.play(&Move::Place(PatientNo(1), first_day(1)));
-    let joined = ledgers.total();
-    ledgers.put(&Write::SetStay(PatientNo(1), None));
-    let left = ledgers.total();
-    comes_to(inst, &before, 159, 159, true)
-        && comes_to(inst, &joined, 166, 2_166, false)
-        && has(&before, KEPT, ALONE)
-        && has(&joined, CROWDED, "2 8 3 3 2 1 0 0")
-        && has(&left, KEPT, ALONE)
-        && ledgers.plan().stay(PatientNo(1)) == None
-}
-
-// Whether prices and then the bills are right, where the list of cells is empty.
-fn are_right(inst: &Instance, ledgers: &mut Ledgers<'_>, foot: &mut CellList) -> bool
-    requires instance { ledgers.old.instance ≡ inst.now.draft }
-    requires sizes { foot.old.sizes ≡ sizes_of inst.now.draft }
-    requires two { IsOfTwo inst.now.draft }
-{
-    prices_are_right(inst, ledgers, foot) && bills_follow(inst, ledgers)
-}
-
 fn hold_with_a_list(alloc: Global, inst: &Instance, ledgers: &mut Ledgers<'_>) -> bool
     requires instance { ledgers.old.instance ≡ inst.now.draft }
     requires two { IsOfTwo inst.now.draft }
 {
     match CellList::new(alloc, Numbering::of(inst)) {
-        Ok(mut foot) => are_right(inst, ledgers, &mut foot),
+        Ok(mut foot) => prices_are_right(inst, ledgers, &mut foot),
         Err(_) => false,
     }
 }
@@ -128,7 +89,7 @@ fn hold(alloc: Global, inst: &Instance, plan: &Plan) -> bool
 }
 
 #[test]
-fn moves_are_priced_by_what_they_touch_and_bills_follow(rt: HostRuntime) {
+fn moves_are_priced_by_what_they_touch(rt: HostRuntime) {
     let alloc = rt.alloc();
     assert!(rt; on_first_admitted(alloc, |inst, plan| hold(alloc, inst, plan)));
 }

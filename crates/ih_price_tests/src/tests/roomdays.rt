@@ -27,43 +27,24 @@ fn are_there(ledger: &RoomDays, person: u32, other: u32) -> bool
     }
 }
 
-// Whether the ledger is right once the first patient has entered.
+// Whether the ledger is right once the first patient has entered, and once the second has joined and the first left.
 fn is_right(inst: &Instance, ledger: &mut RoomDays) -> bool
-    requires new { IsLedgerOf inst.now.draft (empty inst.now.draft) ledger.old }
-    requires two { IsOfTwo inst.now.draft }
-{
-    let here = first_day(0);
-    ledger.enter(inst, PatientNo(0), here);
-    let both = are_there(ledger, 0, 2);
-    let later = ledger.count(RoomNo(0), Day(1));
-    let bill = ledger.cell_bill(inst, RoomNo(0), Day(0));
-    both && later == 1 && has(&bill, KEPT, "1 0 0 0 0 0 0 0")
-}
-
-// Whether the second patient and the occupant are there once the first patient has left again.
-fn is_right_once_one_left(inst: &Instance, ledger: &mut RoomDays) -> bool
     requires new { IsLedgerOf inst.now.draft (empty inst.now.draft) ledger.old }
     requires two { IsOfTwo inst.now.draft }
 {
     let here = first_day(0);
     let beside = first_day(1);
     ledger.enter(inst, PatientNo(0), here);
+    let both = are_there(ledger, 0, 2);
+    let later = ledger.count(RoomNo(0), Day(1));
+    let bill = ledger.cell_bill(inst, RoomNo(0), Day(0));
     ledger.enter(inst, PatientNo(1), beside);
     ledger.leave(inst, PatientNo(0), here);
-    are_there(ledger, 1, 2)
+    let other = are_there(ledger, 1, 2);
+    both && later == 1 && has(&bill, KEPT, "1 0 0 0 0 0 0 0") && other
 }
 
 /// A patient joins an occupant, and leaves again when another has come.
-pub fn hold_once_one_left(alloc: Global, inst: &Instance) -> bool
-    requires { IsOfTwo inst.now.draft }
-{
-    match RoomDays::new(alloc, inst) {
-        Ok(mut ledger) => is_right_once_one_left(inst, &mut ledger),
-        Err(_) => false,
-    }
-}
-
-// A patient joins an occupant.
 pub fn hold(alloc: Global, inst: &Instance) -> bool
     requires { IsOfTwo inst.now.draft }
 {

@@ -24,24 +24,7 @@ ihjournal 1 seed=0 workers=1 moves=0 heat=0 hard=1000
 > no p
 > 0 solve i o k --seed 0 --workers 1 --moves 0 --heat 0 --hard 1000 --start s
 best 0 of 0
-V1 0
-V2 0
-V3 0
-V4 0
-V5 0
-V6 0
-V7 0
-V8 0
-V9 0
-S1 0 x 5 = 0
-S2 1 x 10 = 10
-S3 1 x 2 = 2
-S4 0 x 1 = 0
-S5 0 x 30 = 0
-S6 0 x 7 = 0
-S7 0 x 4 = 0
-S8 0 x 100 = 0
-cost 12
+report 0 0 0 0 0 0 0 0 0, 0 1 1 0 0 0 0 0, 12
 > same j k
 > is o
 = covered
@@ -61,76 +44,36 @@ fn searches_on_the_ward(rt: HostRuntime) {
     goes(&rt, rt.alloc(), ON_THE_WARD);
 }
 
-// Searches on two patients, of whom the first is admitted at the start. A freeze day forbids the cheaper nurse. The last
-// two calls are one and the same: with one worker they leave the same bytes.
+// Searches on two patients, of whom the first is admitted at the start. A freeze day forbids the cheaper nurse.
 const ON_TWO: &str = r#"
 > lay two admitted
 > 0 solve i o j --seed 0 --workers 1 --moves 2 --heat 0 --hard 1000 --start s --freeze 1
 best 0 of 2
-V1 0
-V2 0
-V3 0
-V4 0
-V5 0
-V6 0
-V7 0
-V8 0
-V9 0
-S1 1 x 5 = 5
-S2 2 x 10 = 20
-S3 2 x 2 = 4
-S4 0 x 1 = 0
-S5 1 x 30 = 30
-S6 0 x 7 = 0
-S7 0 x 4 = 0
-S8 1 x 100 = 100
-cost 159
+report 0 0 0 0 0 0 0 0 0, 1 2 2 0 1 0 0 1, 159
 > has j
 ihjournal 1 seed=0 workers=1 moves=2 heat=0 hard=1000
 0 0 0 0 nurserun:1,0,0,5 0,0,0,0,0,0,0,0,0,0,-2,0,0,0,0,0,0 frozen
 1 0 1 1 nurse:1,5,0 0,0,0,0,0,0,0,0,0,0,0,0,0,0,0,0,0 accepted
 > is o
 {"nurses":[{"assignments":[{"day":0,"rooms":["r0"],"shift":"early"},{"day":0,"rooms":["r0"],"shift":"late"},{"day":0,"rooms":["r0"],"shift":"night"},{"day":1,"rooms":["r0"],"shift":"early"},{"day":1,"rooms":["r0"],"shift":"late"},{"day":1,"rooms":["r0"],"shift":"night"}],"id":"n0"},{"assignments":[],"id":"n1"}],"patients":[{"admission_day":0,"id":"p0","operating_theater":"t0","room":"r0"},{"admission_day":"none","id":"p1"}]}
-> 0 solve i o j --seed 0 --workers 1 --moves 2 --heat 0 --hard 1000 --start s --retries 2
+> 0 solve i o j --seed 0 --workers 1 --moves 2 --heat 0 --hard 1000 --start s
 best 1 of 2
-V1 0
-V2 0
-V3 0
-V4 0
-V5 0
-V6 0
-V7 0
-V8 0
-V9 0
-S1 1 x 5 = 5
-S2 0 x 10 = 0
-S3 2 x 2 = 4
-S4 0 x 1 = 0
-S5 1 x 30 = 30
-S6 0 x 7 = 0
-S7 0 x 4 = 0
-S8 1 x 100 = 100
-cost 139
+report 0 0 0 0 0 0 0 0 0, 1 0 2 0 1 0 0 1, 139
+> has j
+ihjournal 1 seed=0 workers=1 moves=2 heat=0 hard=1000
+0 0 0 0 nurserun:1,0,0,5 0,0,0,0,0,0,0,0,0,0,-2,0,0,0,0,0,0 accepted
+1 0 1 1 nurse:1,5,0 0,0,0,0,0,0,0,0,0,0,0,0,0,0,0,0,0 accepted
+> is o
+{"nurses":[{"assignments":[],"id":"n0"},{"assignments":[{"day":0,"rooms":["r0"],"shift":"early"},{"day":0,"rooms":["r0"],"shift":"late"},{"day":0,"rooms":["r0"],"shift":"night"},{"day":1,"rooms":["r0"],"shift":"early"},{"day":1,"rooms":["r0"],"shift":"late"},{"day":1,"rooms":["r0"],"shift":"night"}],"id":"n1"}],"patients":[{"admission_day":0,"id":"p0","operating_theater":"t0","room":"r0"},{"admission_day":"none","id":"p1"}]}
+> # with one worker no try is stale, so none is made again
+> alike
+solve i o k --seed 0 --workers 1 --moves 2 --heat 0 --hard 1000 --start s
+solve i p j --seed 0 --workers 1 --moves 2 --heat 0 --hard 1000 --start s --retries 2
+> same o p
 > has j
 ihjournal 2 seed=0 workers=1 moves=2 heat=0 hard=1000 retries=2
 0 0 0 0 0 nurserun:1,0,0,5 0,0,0,0,0,0,0,0,0,0,-2,0,0,0,0,0,0 accepted
 1 0 1 0 1 nurse:1,5,0 0,0,0,0,0,0,0,0,0,0,0,0,0,0,0,0,0 accepted
-> is o
-{"nurses":[{"assignments":[],"id":"n0"},{"assignments":[{"day":0,"rooms":["r0"],"shift":"early"},{"day":0,"rooms":["r0"],"shift":"late"},{"day":0,"rooms":["r0"],"shift":"night"},{"day":1,"rooms":["r0"],"shift":"early"},{"day":1,"rooms":["r0"],"shift":"late"},{"day":1,"rooms":["r0"],"shift":"night"}],"id":"n1"}],"patients":[{"admission_day":0,"id":"p0","operating_theater":"t0","room":"r0"},{"admission_day":"none","id":"p1"}]}
-> alike
-solve i o j --seed 0 --workers 1 --moves 2 --heat 0 --hard 1000 --start s --retries 2
-solve i p k --seed 0 --workers 1 --moves 2 --heat 0 --hard 1000 --start s
-> has k
-ihjournal 1 seed=0 workers=1 moves=2 heat=0 hard=1000
-0 0 0 0 nurserun:1,0,0,5 0,0,0,0,0,0,0,0,0,0,-2,0,0,0,0,0,0 accepted
-1 0 1 1 nurse:1,5,0 0,0,0,0,0,0,0,0,0,0,0,0,0,0,0,0,0 accepted
-> same o p
-> 0 solve i o j --seed 0 --workers 1 --moves 2 --heat 0 --hard 1000 --start s
-best 1 of 2
-…
-cost 139
-> same j k
-> same o p
 > # the fill of the empty timetable, with no move; a replay from it finds the same, and one without it finds nothing
 > 0 solve i o j --seed 0 --workers 1 --moves 0 --heat 0 --hard 1000 --fill
 = filled
@@ -142,6 +85,19 @@ cost 139
 > 5 replay i j q
 none found
 > no q
+> # a name with signs that need escapes, in another spelling
+> change i two
+"id":"p0"
+"id":"p\"\\\u001F\n"
+> change s admitted
+"id":"p0"
+"id":"p\u0022\\\u001f\n"
+> 0 solve i o j --seed 0 --workers 1 --moves 0 --heat 0 --hard 1000 --start s
+best 0 of 0
+…
+cost 159
+> is o
+…,"patients":[{"admission_day":0,"id":"p\"\\\u001f\n","operating_theater":"t0","room":"r0"},{"admission_day":"none","id":"p1"}]}
 "#;
 
 #[test]
@@ -158,18 +114,7 @@ const CHECKS: &str = r#"
 "surgery_duration":60
 "surgery_duration":61
 > 9 check i s
-V1 0
-V2 0
-V3 0
-V4 1
-V5 0
-V6 0
-V7 0
-V8 0
-V9 0
-S1 1 x 5 = 5
-…
-cost 159
+report 0 0 0 1 0 0 0 0 0, 1 2 2 0 1 0 0 1, 159
 > cut 1 6 check i s
 > # two genders, two theatres, overload
 > lay two admitted
@@ -177,70 +122,19 @@ cost 159
 "admission_day":"none"
 "admission_day":0,"room":"r0","operating_theater":"t1"
 > 9 check i s
-V1 1
-V2 0
-V3 0
-V4 0
-V5 0
-V6 0
-V7 1
-V8 0
-V9 0
-S1 2 x 5 = 10
-S2 8 x 10 = 80
-S3 3 x 2 = 6
-S4 3 x 1 = 3
-S5 2 x 30 = 60
-S6 1 x 7 = 7
-S7 0 x 4 = 0
-S8 0 x 100 = 0
-cost 166
+report 1 0 0 0 0 0 1 0 0, 2 8 3 3 2 1 0 0, 166
 > # they meet on one day only
 > change s admitted
 "admission_day":"none"
 "admission_day":1,"room":"r0","operating_theater":"t1"
 > 9 check i s
-V1 1
-V2 0
-V3 0
-V4 0
-V5 0
-V6 0
-V7 0
-V8 0
-V9 0
-S1 3 x 5 = 15
-S2 8 x 10 = 80
-S3 3 x 2 = 6
-S4 0 x 1 = 0
-S5 2 x 30 = 60
-S6 0 x 7 = 0
-S7 1 x 4 = 4
-S8 0 x 100 = 0
-cost 165
+report 1 0 0 0 0 0 0 0 0, 3 8 3 0 2 0 1 0, 165
 > # one theatre too full
 > change s admitted
 "admission_day":"none"
 "admission_day":0,"room":"r1","operating_theater":"t0"
 > 9 check i s
-V1 0
-V2 0
-V3 0
-V4 40
-V5 0
-V6 0
-V7 0
-V8 0
-V9 3
-S1 1 x 5 = 5
-S2 2 x 10 = 20
-S3 2 x 2 = 4
-S4 0 x 1 = 0
-S5 1 x 30 = 30
-S6 0 x 7 = 0
-S7 0 x 4 = 0
-S8 0 x 100 = 0
-cost 59
+report 0 0 0 40 0 0 0 0 3, 1 2 2 0 1 0 0 0, 59
 > no j
 > no o
 "#;
@@ -254,61 +148,26 @@ fn checks(rt: HostRuntime) {
 const REFUSED_INSTANCES: &str = r#"
 > store s
 = covered
+> changes i ward 3 solve i o j --seed 0 --workers 1 --moves 2 --heat 0 --hard 1000
+"rooms":[{"id":"r0","capacity":2}], |  | instance refused: Missing at $.rooms
+"days":1 | "days":0 | instance refused: Range at $.days
+"length_of_stay":1 | "length_of_stay":0 | instance refused: Range at $.occupants[0].length_of_stay
+"rooms":[{"id":"r0","capacity":2}], | "rooms":[], | instance refused: Length at $.rooms
+}]}]} | }]}] | instance refused: NotJson at $
+> 3 check i s
+instance refused: NotJson at $
 > change i ward
 "rooms":[{"id":"r0","capacity":2}],
 
-> 3 solve i o j --seed 0 --workers 1 --moves 2 --heat 0 --hard 1000
-instance refused: Missing at $.rooms
-> change i ward
-"days":1
-"days":0
-> 3 solve i o j --seed 0 --workers 1 --moves 2 --heat 0 --hard 1000
-instance refused: Range at $.days
-> store i
-{"days":0,"skill_levels":3,"shift_types":["early","late","night"],
-"age_groups":["child","adult","old"],
-"weights":{"room_mixed_age":5,"room_nurse_skill":10,"continuity_of_care":2,
-"nurse_eccessive_workload":1,"open_operating_theater":30,"surgeon_transfer":7,
-"patient_delay":4,"unscheduled_optional":100},
-"occupants":[{"id":"a0","gender":"A","age_group":"adult","length_of_stay":1,
-"workload_produced":[2,1,1],"skill_level_required":[1,0,2],"room_id":"r0"}],
-"patients":[],"surgeons":[],"operating_theaters":[],
-"nurses":[{"id":"n0","skill_level":1,"working_shifts":[
-{"day":0,"shift":"early","max_load":2},{"day":0,"shift":"late","max_load":2},
-{"day":0,"shift":"night","max_load":2}]}]}
-> 3 solve i o j --seed 0 --workers 1 --moves 2 --heat 0 --hard 1000
-instance refused: Range at $.days
-> change i ward
-"length_of_stay":1
-"length_of_stay":0
-> 3 solve i o j --seed 0 --workers 1 --moves 2 --heat 0 --hard 1000
-instance refused: Range at $.occupants[0].length_of_stay
-> change i ward
-"rooms":[{"id":"r0","capacity":2}],
-"rooms":[],
-> 3 solve i o j --seed 0 --workers 1 --moves 2 --heat 0 --hard 1000
-instance refused: Length at $.rooms
+> changes i i 3 solve i o j --seed 0 --workers 1 --moves 2 --heat 0 --hard 1000
+"days":1 | "days":0 | instance refused: Range at $.days
 > store i
 > 3 solve i o j --seed 0 --workers 1 --moves 2 --heat 0 --hard 1000
-instance refused: NotJson at $
-> change i ward
-}]}]}
-}]}]
-> 3 solve i o j --seed 0 --workers 1 --moves 2 --heat 0 --hard 1000
-instance refused: NotJson at $
-> 3 check i s
 instance refused: NotJson at $
 > # of the two patients
-> change i two
-[2,2,2,2,2,2]
-[2,2,2,2,2]
-> 3 check i s
-instance refused: Length at $.patients[0].workload_produced
-> change i two
-40,"surgeon_id":"s0"
-40,"surgeon_id":"s9"
-> 3 check i s
-instance refused: Unknown at $.patients[1].surgeon_id
+> changes i two 3 check i s
+[2,2,2,2,2,2] | [2,2,2,2,2] | instance refused: Length at $.patients[0].workload_produced
+40,"surgeon_id":"s0" | 40,"surgeon_id":"s9" | instance refused: Unknown at $.patients[1].surgeon_id
 > no j
 > no o
 "#;
@@ -321,20 +180,12 @@ fn refused_instances(rt: HostRuntime) {
 // Solutions that both a check and a search refuse.
 const REFUSED_SOLUTIONS: &str = r#"
 > lay two admitted
-> change s admitted
-"room":"r0"
-"room":"r7"
-> 4 check i s
-solution refused: Unknown at $.patients[0].room
-> 4 solve i o j --seed 0 --workers 1 --moves 2 --heat 0 --hard 1000 --start s
-solution refused: Unknown at $.patients[0].room
-> change s admitted
-"night","rooms":["r0"]}]}]}
-"night","rooms":["r0"]}]},{"id":"n1","assignments":[{"day":0,"shift":"early","rooms":["r0"]}]}]}
-> 4 check i s
-solution refused: TwoNurses at $.nurses[1].assignments[0].rooms[0]
-> 4 solve i o j --seed 0 --workers 1 --moves 2 --heat 0 --hard 1000 --start s
-solution refused: TwoNurses at $.nurses[1].assignments[0].rooms[0]
+> changes s admitted 4 check i s
+"room":"r0" | "room":"r7" | solution refused: Unknown at $.patients[0].room
+"night","rooms":["r0"]}]}]} | "night","rooms":["r0"]}]},{"id":"n1","assignments":[{"day":0,"shift":"early","rooms":["r0"]}]}]} | solution refused: TwoNurses at $.nurses[1].assignments[0].rooms[0]
+> changes s admitted 4 solve i o j --seed 0 --workers 1 --moves 2 --heat 0 --hard 1000 --start s
+"room":"r0" | "room":"r7" | solution refused: Unknown at $.patients[0].room
+"night","rooms":["r0"]}]}]} | "night","rooms":["r0"]}]},{"id":"n1","assignments":[{"day":0,"shift":"early","rooms":["r0"]}]}]} | solution refused: TwoNurses at $.nurses[1].assignments[0].rooms[0]
 > no j
 > no o
 "#;
@@ -347,29 +198,27 @@ fn refused_solutions(rt: HostRuntime) {
 // A read that fails, a journal and a solution that are cut off, and a text that can't be put. One fault doesn't go on.
 const FAULTS: &str = r#"
 > lay ward covered-start
-> fail-read 1
-> 2 solve i o j --seed 0 --workers 1 --moves 2 --heat 0 --hard 1000
-cannot read i
-> no j
-> no o
-> fail-read 3
+> fail-read 2
 > 2 solve i o j --seed 0 --workers 1 --moves 0 --heat 0 --hard 1000 --start s
 cannot read s
 > no j
 > no o
+> fail-read 3
+> 2 solve i o j --seed 0 --workers 1 --moves 2 --heat 0 --hard 1000
+cannot read i
+> no j
+> no o
+> 0 solve i o j --seed 0 --workers 1 --moves 2 --heat 0 --hard 1000
+= found
+> anew
+> lay ward covered
 > fail-write 1 10
 > 6 solve i o j --seed 0 --workers 1 --moves 2 --heat 0 --hard 1000
 cannot write j
 > is j
 ihjournal 
 > no o
-> 0 solve i o j --seed 0 --workers 1 --moves 2 --heat 0 --hard 1000
-= found
-> is j
-= journal
-> is o
-= covered
-> fail-write 5 0
+> fail-write 3 0
 > 6 solve i o j --seed 0 --workers 1 --moves 2 --heat 0 --hard 1000
 cannot write o
 > is j

@@ -15,115 +15,48 @@ const REPLAYS: &str = "
 = covered
 > is j
 = journal
-> # headings
 > store j
 > 8 replay i j o
 journal refused: line 1: Heading
-> change j journal
-workers=1
-workers=65
-> 8 replay i j o
-journal refused: line 1: Heading
-> change j journal
-seed=0
-seed=00
-> 8 replay i j o
-journal refused: line 1: Heading
-> change j journal
-workers=1 moves=2
-workers=64 moves=15626
-> 8 replay i j o
-journal refused: line 1: Heading
-> change j journal
-hard=1000
-hard=1000\r
-> 8 replay i j o
-journal refused: line 1: Heading
-> # entries
-> change j journal
--3,0,1,1
--3,0,2,1
-> 8 replay i j o
-journal refused: line 2: Price
-> change j journal
-0 0 0 0 nurserun
-0 0 1 0 nurserun
-> 8 replay i j o
-journal refused: line 2: Number
-> change j journal
-0 0 0 0 nurserun
-1 0 0 0 nurserun
-> 8 replay i j o
-journal refused: line 2: Place
-> change j journal
-0 0 0 0 nurserun
-0 1 0 0 nurserun
-> 8 replay i j o
-journal refused: line 2: Worker
-> change j journal
-1 0 1 1 nurse
-1 0 1 0 nurse
-> 8 replay i j o
-journal refused: line 3: Seen
-> change j journal
-1 0 1 1 nurse
-1 0 1 2 nurse
-> 8 replay i j o
-journal refused: line 3: Seen
-> change j journal
-nurse:0,2,0
-nurse:0,1,0
-> 8 replay i j o
-journal refused: line 3: Move
-> change j journal
-0,0,0,0,0,0 accepted
-0,0,0,0,0,0 declined
-> 8 replay i j o
-journal refused: line 3: Verdict
-> change j journal
-0,0,0,0,0,0 accepted
-0,0,0,0,0,0 stale:roomday.0.0:0:0
-> 8 replay i j o
-journal refused: line 3: Verdict
-> # lines
-> write j
-ihjournal 1 seed=0 workers=1 moves=2 heat=0 hard=1000
-0 0 0 0 nurserun:0,0,0,5 0,0,0,0,0,0,0,0,-3,0,1,1,0,0,0,0,0 accepted
+> changes j journal 8 replay i j o
+workers=1 | workers=65 | journal refused: line 1: Heading
+seed=0 | seed=00 | journal refused: line 1: Heading
+workers=1 moves=2 | workers=64 moves=15626 | journal refused: line 1: Heading
+hard=1000 | hard=1000\r | journal refused: line 1: Heading
+-3,0,1,1 | -3,0,2,1 | journal refused: line 2: Price
+0 0 0 0 nurserun | 0 0 1 0 nurserun | journal refused: line 2: Number
+0 0 0 0 nurserun | 1 0 0 0 nurserun | journal refused: line 2: Place
+0 0 0 0 nurserun | 0 1 0 0 nurserun | journal refused: line 2: Worker
+1 0 1 1 nurse | 1 0 1 0 nurse | journal refused: line 3: Seen
+1 0 1 1 nurse | 1 0 1 2 nurse | journal refused: line 3: Seen
+1 0 1 1 nurse | 1 0 1 4294967296 nurse | journal refused: line 3: Grammar
+nurse:0,2,0 | nurse:0,1,0 | journal refused: line 3: Move
+0,0,0,0,0,0 accepted | 0,0,0,0,0,0 declined | journal refused: line 3: Verdict
+0,0,0,0,0,0 accepted | 0,0,0,0,0,0 stale:roomday.0.0:0:0 | journal refused: line 3: Verdict
+0,0,0,0,0,0 accepted | 0,0,0,0,0,0 stale:roomday.1.0:0:0 | journal refused: line 3: Grammar
+0,0,0,0,0,0 accepted | 0,0,0,0,0,0 accepted\r | journal refused: line 3: Grammar
+> # without the third line, with that line twice, with a digit behind it, and without its line feed
+> store j
+= one-entry
 > 8 replay i j o
 journal refused: line 3: Early
-> write j
-ihjournal 1 seed=0 workers=1 moves=2 heat=0 hard=1000
-0 0 0 0 nurserun:0,0,0,5 0,0,0,0,0,0,0,0,-3,0,1,1,0,0,0,0,0 accepted
+> store j
+= journal
+> add j
 1 0 1 1 nurse:0,2,0 0,0,0,0,0,0,0,0,0,0,0,0,0,0,0,0,0 accepted
-1 0 1 1 nurse:0,2,0 0,0,0,0,0,0,0,0,0,0,0,0,0,0,0,0,0 accepted
+
 > 8 replay i j o
 journal refused: line 4: Extra
 > store j
-ihjournal 1 seed=0 workers=1 moves=2 heat=0 hard=1000
-0 0 0 0 nurserun:0,0,0,5 0,0,0,0,0,0,0,0,-3,0,1,1,0,0,0,0,0 accepted
-1 0 1 1 nurse:0,2,0 0,0,0,0,0,0,0,0,0,0,0,0,0,0,0,0,0 accepted
+= journal
+> add j
 0
 > 8 replay i j o
 journal refused: line 4: Extra
 > store j
-ihjournal 1 seed=0 workers=1 moves=2 heat=0 hard=1000
-0 0 0 0 nurserun:0,0,0,5 0,0,0,0,0,0,0,0,-3,0,1,1,0,0,0,0,0 accepted
+= one-entry
+> add j
 1 0 1 1 nurse:0,2,0 0,0,0,0,0,0,0,0,0,0,0,0,0,0,0,0,0 accepted
-> 8 replay i j o
-journal refused: line 3: Grammar
-> change j journal
-1 0 1 1 nurse
-1 0 1 4294967296 nurse
-> 8 replay i j o
-journal refused: line 3: Grammar
-> change j journal
-0,0,0,0,0,0 accepted
-0,0,0,0,0,0 stale:roomday.1.0:0:0
-> 8 replay i j o
-journal refused: line 3: Grammar
-> change j journal
-0,0,0,0,0,0 accepted
-0,0,0,0,0,0 accepted\r
 > 8 replay i j o
 journal refused: line 3: Grammar
 > no o
@@ -138,12 +71,8 @@ ihjournal 2 seed=0 workers=1 moves=2 heat=0 hard=1000 retries=1
 = found
 > is p
 = covered
-> write j
-ihjournal 2 seed=0 workers=1 moves=2 heat=0 hard=1000 retries=1
-0 0 0 1 0 nurserun:0,0,0,5 0,0,0,0,0,0,0,0,-3,0,1,1,0,0,0,0,0 accepted
-1 0 1 0 1 nurse:0,2,0 0,0,0,0,0,0,0,0,0,0,0,0,0,0,0,0,0 accepted
-> 8 replay i j q
-journal refused: line 2: Try
+> changes j j 8 replay i j q
+0 0 0 0 0 nurserun | 0 0 0 1 0 nurserun | journal refused: line 2: Try
 > no q
 ";
 
@@ -164,9 +93,8 @@ const SALVAGES: &str = "
 = salvaged
 > is o
 = covered
-> write j
-ihjournal 1 seed=0 workers=1 moves=2 heat=0 hard=1000
-0 0 0 0 nurserun:0,0,0,5 0,0,0,0,0,0,0,0,-3,0,1,1,0,0,0,0,0 accepted
+> store j
+= one-entry
 > 0 salvage i j p
 = salvaged
 > is p
@@ -178,16 +106,10 @@ nurse:0,1,0
 = salvaged
 > is q
 = covered
-> change j journal
--3,0,1,1
--3,0,2,1
-> 5 salvage i j r
-none found
-> change j journal
-seed=0
-seed=00
-> 8 salvage i j r
-journal refused: line 1: Heading
+> changes j journal 5 salvage i j r
+-3,0,1,1 | -3,0,2,1 | none found
+> changes j journal 8 salvage i j r
+seed=0 | seed=00 | journal refused: line 1: Heading
 > no r
 ";
 

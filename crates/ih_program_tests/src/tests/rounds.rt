@@ -9,24 +9,7 @@ const ROUNDS: &str = r#"
 = ward
 > 0 rounds i o j --seed 0 --workers 1 --moves 1 --heat 0 --hard 1000 --rounds 2
 best 1 of 1 in round 0
-V1 0
-V2 0
-V3 0
-V4 0
-V5 0
-V6 0
-V7 0
-V8 0
-V9 0
-S1 0 x 5 = 0
-S2 1 x 10 = 10
-S3 1 x 2 = 2
-S4 0 x 1 = 0
-S5 0 x 30 = 0
-S6 0 x 7 = 0
-S7 0 x 4 = 0
-S8 0 x 100 = 0
-cost 12
+report 0 0 0 0 0 0 0 0 0, 0 1 1 0 0 0 0 0, 12
 > has j
 ihjournal 1 seed=0 workers=1 moves=1 heat=0 hard=1000
 0 0 0 0 nurserun:0,0,0,5 0,0,0,0,0,0,0,0,-3,0,1,1,0,0,0,0,0 accepted

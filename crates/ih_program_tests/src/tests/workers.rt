@@ -63,17 +63,20 @@ fn workers_side_by_side(rt: HostRuntime) {
 // Journals of many workers are replayed to the same text and solution.
 const REPLAYED: &str = "
 > lay two admitted
-> replays replay i j p --start s
+> replays
+replay i j p --start s
 solve i o j --seed 5 --workers 1 --moves 30 --heat 300 --hard 1000 --start s
 solve i o j --seed 5 --workers 2 --moves 30 --heat 300 --hard 1000 --start s --retries 1
 solve i o j --seed 5 --workers 8 --moves 30 --heat 300 --hard 1000 --start s
 solve i o j --seed 5 --workers 8 --moves 30 --heat 300 --hard 1000 --start s --retries 3
 solve i o j --seed 5 --workers 64 --moves 30 --heat 300 --hard 1000 --start s
-> replays replay i j p --start s --freeze 1
+> replays
+replay i j p --start s --freeze 1
 solve i o j --seed 5 --workers 3 --moves 30 --heat 300 --hard 1000 --start s --freeze 1
 solve i o j --seed 5 --workers 64 --moves 30 --heat 300 --hard 1000 --start s --retries 1 --freeze 1
 > # two workers whom no gate holds
-> replays replay i j p --start s
+> replays
+replay i j p --start s
 solve i o j --seed 5 --workers 2 --moves 500 --heat 300 --hard 1000 --start s
 > lines j 1001
 ";
@@ -86,7 +89,8 @@ fn any_number_of_workers(rt: HostRuntime) {
 // Searches with 2,000 moves each, from the fill of a generated instance.
 const GENERATED: &str = "
 > 0 gen 7 i
-> replays replay i j p --fill
+> replays
+replay i j p --fill
 solve i o j --seed 5 --workers 1 --moves 2000 --heat 50 --hard 100000 --fill
 solve i o j --seed 5 --workers 2 --moves 2000 --heat 50 --hard 100000 --fill --retries 1
 solve i o j --seed 5 --workers 3 --moves 2000 --heat 0 --hard 100000 --fill
