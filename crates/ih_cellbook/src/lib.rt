@@ -6,6 +6,7 @@
 mod best;
 mod books;
 mod buffers;
+mod chains;
 mod counters;
 mod entry_kinds;
 mod journals;

@@ -4,6 +4,5 @@ pub mod JournalsApart
 pub mod Lengths
 pub mod Lines
 pub mod Moves
-pub mod Padding
 pub mod SingleHistories
 pub mod EntryTries

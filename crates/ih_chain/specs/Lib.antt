@@ -1,4 +1,3 @@
-pub mod Chains
 pub mod Entries
 pub mod Laws
 pub mod Lending

@@ -1,8 +1,8 @@
 //! Entries and offers of chains.
 
-use crate::chains::Chain;
 use ih_cellbook::{Logged, Offers, Reads};
 use ih_journal::Verdict;
+use ih_moves::Chain;
 use ih_tables::Bill;
 use std::alloc::{AllocError, Global};
 

@@ -1,7 +1,6 @@
 //! Chains of moves, which are tried as one, and the texts of their journal.
 #![tactic(auto)]
 
-mod chains;
 mod entries;
 mod laws;
 mod replicas;
@@ -9,8 +8,8 @@ mod running;
 mod runs;
 mod texts;
 
-pub use chains::Chain;
 pub use entries::{ChainEntry, ChainOffer};
+pub use ih_moves::Chain;
 pub use laws::{
     chain_journals_are_short, chain_journals_tell_searches_apart, single_chains_are_moves,
     single_chains_have_the_same_line,

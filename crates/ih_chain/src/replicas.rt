@@ -2,10 +2,10 @@
 
 ghost use Rattle.std.specs.Prelude.{◌≡◌, ◌^◌, [], IfOk};
 
-use crate::chains::Chain;
 use crate::entries::{ChainEntry, ChainOffer};
 use ih_cellbook::Replicates;
 use ih_journal::Options;
+use ih_moves::Chain;
 use ih_plan::Plan;
 use ih_snapshot::Replica;
 use ih_tables::Instance;

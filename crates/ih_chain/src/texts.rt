@@ -6,9 +6,9 @@ ghost use Rattle.ih_journal.specs.Pieces.{marked};
 ghost use Rattle.ih_journal.specs.Texts.{ended, move_text, IsPart};
 ghost use Rattle.ih_chain.specs.Texts.{chain_heading, chain_journal, chain_line, chain_lines_from, chain_text};
 
-use crate::chains::Chain;
 use crate::entries::ChainEntry;
 use ih_journal::{Options, price_text, put_option, text, verdict_text};
+use ih_moves::Chain;
 use ih_plan::Move;
 use itoa::Buffer;
 use std::alloc::{AllocError, Global};

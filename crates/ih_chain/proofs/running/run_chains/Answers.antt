@@ -1,7 +1,7 @@
 use Rattle.std.proofs.Common.{arith, refl, rules}
 use denote.Param.Send.{sendable}
 use Rattle.ih_snapshot.proofs.replicas.Replica.TheSendSync.{the_send as replica_crosses}
-use Rattle.ih_chain.proofs.chains.Chain.TheSendSync.{the_send as chain_crosses}
+use Rattle.ih_moves.proofs.chains.Chain.TheSendSync.{the_send as chain_crosses}
 use Rattle.ih_chain.proofs.entries.ChainEntry.TheSendSync.{the_send as entry_crosses}
 use Rattle.ih_chain.proofs.entries.ChainOffer.TheSendSync.{the_send as offer_crosses}
 use Rattle.ih_chain.proofs.running.run_chains.Goals as goal
