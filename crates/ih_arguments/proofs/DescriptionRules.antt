@@ -1,20 +1,16 @@
 -- The rules of a command's description: what an argument adds to them, and what the rule at a place requires.
-use Rattle.std.proofs.Common.{◌≡◌, ◌∙◌, ap, ap₂, ℕ, [], Result, Ok, Err, Some, false, true, refl, List, codes}
-use Rattle.std.specs.declared.alloc.AllocError.{AllocError}
+use Rattle.std.proofs.Common.{◌≡◌, ◌∙◌, ap, ap₂, ℕ, ◌∷◌, Some, false, true, refl, rules, List, IsTrue, codes}
+use Rattle.std.specs.List.{list_all}
 use Rattle.std.specs.Prelude.{slice_get}
 use Rattle.clap.specs.Built.{AddsArg}
-use Rattle.clap.specs.Words.{AddsSubcommand, App, Row, Rule, Text, app_of, new_app, rule_of, with_rule, with_subcommand}
+use Rattle.clap.specs.Words.{AddsSubcommand, App, Row, Rule, Text, app_of, rule_of, with_rule, with_subcommand}
 use Rattle.clap.specs.declared.builder.arg.Arg.{Arg}
 use Rattle.clap.specs.declared.builder.command.Command.{Command}
 use Rattle.clap.proofs.SimpleLemmas.{plain_fields}
-use Rattle.ih_arguments.specs.Arguments.{named, named_number, numbered_option, optional_between, optional_number}
+use Rattle.ih_arguments.specs.Arguments.{app_by, is_plain_by, named, named_number, numbered_option, optional_between, optional_number}
+use Rattle.ih_arguments.specs.declared.arguments.Description.{Description}
 use Rattle.ih_arguments.specs.Matches.{HasFiles, HasText}
 use Rattle.ih_arguments.specs.Rules.{Requires, RequiresNumber, TakesNumber}
-
--- the app of a description, where there is one
-abbrev pub app_in : Result Command AllocError → App
-app_in (Ok command) = app_of command
-app_in (Err _) = new_app []
 
 -- an argument adds its rule
 pub adds_rule : {old new : Command} {arg : Arg} {app : App} {rule : Rule} → app_of old ≡ app → AddsArg old arg new → arg.global ≡ false → rule_of arg ≡ rule
@@ -61,3 +57,11 @@ takes_between place = record { place = place; range = refl; parser = refl }
 pub takes_number : {app : App} {k : ℕ} {id : Text} {high : ℕ} → slice_get app.top.rules k ≡ Some (optional_number id high)
     → TakesNumber app k (optional_number id high) 0 high
 takes_number place = takes_between place
+
+-- the first of plain commands
+pub first-plain : (d : Description) (ds : List Description) → IsTrue (list_all is_plain_by (d ∷ ds)) → (app_by d).top.is_plain ≡ true
+first-plain d ds h = search rules
+
+-- and the others
+pub others-plain : (d : Description) (ds : List Description) → IsTrue (list_all is_plain_by (d ∷ ds)) → IsTrue (list_all is_plain_by ds)
+others-plain d ds h = search rules

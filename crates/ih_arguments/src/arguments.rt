@@ -1,31 +1,96 @@
-//! The rules of the commands' arguments, for `clap`.
-ghost use Rattle.std.specs.Prelude.{◌≡◌, IfOk, false, true};
-ghost use Rattle.clap.specs.Words.{App, Rule, app_of, new_app, rule_of, with_rule};
-ghost use Rattle.clap.specs.Words.{with_subcommand};
-ghost use Rattle.ih_arguments.specs.Arguments.{IsChanged, any_number_option, files_app, flag, named, named_number};
-ghost use Rattle.ih_arguments.specs.Arguments.{numbered_option, optional, optional_between, optional_number, seed_option};
+//! The rules of the commands' arguments, for `clap`: a command is described by a table of its arguments.
+ghost use Rattle.std.specs.Prelude.{◌≡◌, IfOk, IsTrue, false, map};
+ghost use Rattle.std.specs.List.{list_all};
+ghost use Rattle.clap.specs.Words.{app_of, rule_of};
+ghost use Rattle.ih_arguments.specs.Arguments.{any_number_option, app_by, flag, is_plain_by, named, named_number};
+ghost use Rattle.ih_arguments.specs.Arguments.{numbered_option, optional, optional_any, optional_between};
+ghost use Rattle.ih_arguments.specs.Arguments.{optional_name, rule_by, with_commands};
+ghost use Rattle.ih_arguments.specs.Arguments.{with_rules};
 
 use clap::{Arg, ArgAction, Command, value_parser};
 use std::alloc::{AllocError, Global};
 
-/// A required argument with one value, by its place.
-pub fn named<'a>(alloc: Global, id: &'a str) -> Arg<'a>
+/// How an argument is given.
+#[derive(Clone, Copy)]
+pub enum Kind {
+    /// A required value, by its place.
+    Named,
+    /// A value by its place, which may be left out.
+    OptionalNamed,
+    /// A required number of 64 bits, by its place.
+    NamedNumber,
+    /// A required `--id N`, where N is a number from the first to the second.
+    Number(u32, u32),
+    /// A required `--id N`, where N is any number of 64 bits.
+    AnyNumber,
+    /// `--id VALUE`, which may be left out.
+    Optional,
+    /// `--id N`, which may be left out, where N is a number from the first to the second.
+    OptionalNumber(u32, u32),
+    /// `--id N`, which may be left out, where N is any number of 64 bits.
+    OptionalAnyNumber,
+    /// The flag `--id`.
+    Flag,
+}
+
+/// An argument of a command.
+#[derive(Clone, Copy)]
+pub struct Argument<'a> {
+    pub id: &'a str,
+    pub kind: Kind,
+    /// What the help says of it.
+    pub help: &'a str,
+}
+
+/// An argument, with or without what the help says of it.
+#[macro_export]
+macro_rules! argument {
+    ($id:expr, $kind:expr) => {
+        argument!($id, $kind, "")
+    };
+    ($id:expr, $kind:expr, $help:expr) => {
+        Argument { id: $id, kind: $kind, help: $help }
+    };
+}
+
+/// A command, as `clap` reads its words and explains them.
+#[derive(Clone, Copy)]
+pub struct Description<'d, 'a> {
+    pub name: &'a str,
+    /// What the help says of it.
+    pub about: &'a str,
+    /// The words that call it.
+    pub called: &'a str,
+    /// Its arguments, in order.
+    pub arguments: &'d [Argument<'a>],
+}
+
+// A required argument with one value, by its place.
+fn named<'a>(alloc: Global, id: &'a str) -> Arg<'a>
     ensures rule { rule_of result ≡ named id.entry.now }
     ensures local { result.global ≡ false }
 {
     Arg::new(alloc, id).required(true).action(ArgAction::Set)
 }
 
-/// A required number of 64 bits, by its place.
-pub fn named_number<'a>(alloc: Global, id: &'a str) -> Arg<'a>
+// A value by its place, which may be left out.
+fn optional_name<'a>(alloc: Global, id: &'a str) -> Arg<'a>
+    ensures rule { rule_of result ≡ optional_name id.entry.now }
+    ensures local { result.global ≡ false }
+{
+    Arg::new(alloc, id).action(ArgAction::Set)
+}
+
+// A required number of 64 bits, by its place.
+fn named_number<'a>(alloc: Global, id: &'a str) -> Arg<'a>
     ensures rule { rule_of result ≡ named_number id.entry.now }
     ensures local { result.global ≡ false }
 {
     named(alloc, id).value_parser(value_parser!(u64))
 }
 
-/// A required `--id N`, where N is a number from `low` to `high`.
-pub fn numbered_option<'a>(alloc: Global, id: &'a str, low: u32, high: u32) -> Arg<'a>
+// A required `--id N`, where N is a number from `low` to `high`.
+fn numbered_option<'a>(alloc: Global, id: &'a str, low: u32, high: u32) -> Arg<'a>
     ensures rule { rule_of result ≡ numbered_option id.entry.now low high }
     ensures local { result.global ≡ false }
 {
@@ -34,113 +99,111 @@ pub fn numbered_option<'a>(alloc: Global, id: &'a str, low: u32, high: u32) -> A
         .value_parser(value_parser!(u64).range(i64::from(low)..=i64::from(high)))
 }
 
-/// A required `--id N`, where N is any number of 64 bits.
-pub fn any_number_option<'a>(alloc: Global, id: &'a str) -> Arg<'a>
+// A required `--id N`, where N is any number of 64 bits.
+fn any_number_option<'a>(alloc: Global, id: &'a str) -> Arg<'a>
     ensures rule { rule_of result ≡ any_number_option id.entry.now }
     ensures local { result.global ≡ false }
 {
     named(alloc, id).long(id).value_parser(value_parser!(u64))
 }
 
-/// `--seed N`, where N is any number of 64 bits.
-pub fn seed_option<'a>(alloc: Global) -> Arg<'a>
-    ensures rule { rule_of result ≡ seed_option }
-    ensures local { result.global ≡ false }
-{
-    any_number_option(alloc, "seed")
-}
-
-/// `--id VALUE`, which may be left out.
-pub fn optional<'a>(alloc: Global, id: &'a str) -> Arg<'a>
+// `--id VALUE`, which may be left out.
+fn optional<'a>(alloc: Global, id: &'a str) -> Arg<'a>
     ensures rule { rule_of result ≡ optional id.entry.now }
     ensures local { result.global ≡ false }
 {
     Arg::new(alloc, id).long(id).action(ArgAction::Set)
 }
 
-/// `--id N`, which may be left out, where N is a number from `low` to `high`.
-pub fn optional_between<'a>(alloc: Global, id: &'a str, low: u32, high: u32) -> Arg<'a>
+// `--id N`, which may be left out, where N is a number from `low` to `high`.
+fn optional_between<'a>(alloc: Global, id: &'a str, low: u32, high: u32) -> Arg<'a>
     ensures rule { rule_of result ≡ optional_between id.entry.now low high }
     ensures local { result.global ≡ false }
 {
     optional(alloc, id).value_parser(value_parser!(u64).range(i64::from(low)..=i64::from(high)))
 }
 
-/// `--id N`, which may be left out, where N is at most `high`.
-pub fn optional_number<'a>(alloc: Global, id: &'a str, high: u32) -> Arg<'a>
-    ensures rule { rule_of result ≡ optional_number id.entry.now high }
+// `--id N`, which may be left out, where N is any number of 64 bits.
+fn optional_any<'a>(alloc: Global, id: &'a str) -> Arg<'a>
+    ensures rule { rule_of result ≡ optional_any id.entry.now }
     ensures local { result.global ≡ false }
 {
-    optional_between(alloc, id, 0, high)
+    optional(alloc, id).value_parser(value_parser!(u64))
 }
 
-/// The flag `--id`.
-pub fn flag<'a>(alloc: Global, id: &'a str) -> Arg<'a>
+// The flag `--id`.
+fn flag<'a>(alloc: Global, id: &'a str) -> Arg<'a>
     ensures rule { rule_of result ≡ flag id.entry.now }
     ensures local { result.global ≡ false }
 {
     Arg::new(alloc, id).long(id).action(ArgAction::SetTrue)
 }
 
-/// A command without arguments, with what the help says of it, and the words that call it.
-pub fn described<'a>(
-    alloc: Global,
-    name: &'a str,
-    about: &'a str,
-    called: &'a str,
-) -> Result<Command<'a>, AllocError>
-    ensures { IfOk result (λ c. app_of c ≡ new_app name.entry.now) }
+// What `clap` knows of an argument.
+fn made<'a>(alloc: Global, argument: &Argument<'a>) -> Arg<'a>
+    ensures rule { rule_of result ≡ rule_by argument.entry.now }
+    ensures local { result.global ≡ false }
 {
-    let command = Command::new(alloc, name).about(about).bin_name(called)?;
-    Ok(command)
+    let id = argument.id;
+    let arg = match argument.kind {
+        Kind::Named => named(alloc, id),
+        Kind::OptionalNamed => optional_name(alloc, id),
+        Kind::NamedNumber => named_number(alloc, id),
+        Kind::Number(low, high) => numbered_option(alloc, id, low, high),
+        Kind::AnyNumber => any_number_option(alloc, id),
+        Kind::Optional => optional(alloc, id),
+        Kind::OptionalNumber(low, high) => optional_between(alloc, id, low, high),
+        Kind::OptionalAnyNumber => optional_any(alloc, id),
+        Kind::Flag => flag(alloc, id),
+    };
+    arg.help(argument.help)
 }
 
-/// The description with one argument more, where there was memory for it. Lack of memory is passed on, so that a whole
-/// description has no branches.
-pub fn with<'a>(
-    description: Result<Command<'a>, AllocError>,
-    argument: Arg<'a>,
+// The command with these arguments behind its own.
+fn with_arguments<'a>(
+    alloc: Global,
+    command: Command<'a>,
+    arguments: &[Argument<'a>],
 ) -> Result<Command<'a>, AllocError>
-    requires { argument.global ≡ false }
-    ensures { (app : App) (rule : Rule) → IfOk description.entry (λ c. app_of c ≡ app) → rule_of argument.entry ≡ rule
-        → IfOk result (λ c. app_of c ≡ with_rule app rule) }
+    ensures { IfOk result
+        (λ c. app_of c ≡ with_rules (app_of command.entry) (map rule_by arguments.entry.now)) }
 {
-    match description {
-        Ok(command) => command.arg(argument),
-        Err(e) => Err(e),
+    match arguments.split_first() {
+        None => Ok(command),
+        Some((first, others)) => {
+            let command = command.arg(made(alloc, first))?;
+            with_arguments(alloc, command, others)
+        }
     }
 }
 
-/// The same, with a line of help on the argument.
-pub fn with_helped<'a>(
-    description: Result<Command<'a>, AllocError>,
-    argument: Arg<'a>,
-    help: &'a str,
+/// What `clap` knows of a command.
+pub fn command<'a>(
+    alloc: Global,
+    description: &Description<'_, 'a>,
 ) -> Result<Command<'a>, AllocError>
-    requires { argument.global ≡ false }
-    ensures { (app : App) (rule : Rule) → IfOk description.entry (λ c. app_of c ≡ app) → rule_of argument.entry ≡ rule
-        → IfOk result (λ c. app_of c ≡ with_rule app rule) }
+    ensures { IfOk result (λ c. app_of c ≡ app_by description.entry.now) }
 {
-    with(description, argument.help(help))
+    let command = Command::new(alloc, description.name)
+        .about(description.about)
+        .bin_name(description.called)?;
+    with_arguments(alloc, command, description.arguments)
 }
 
-/// The description of a program with a command more.
-pub fn with_command<'a>(
-    program: Result<Command<'a>, AllocError>,
-    command: Result<Command<'a>, AllocError>,
+/// A program with these commands behind its own.
+pub fn with_commands<'a>(
+    alloc: Global,
+    program: Command<'a>,
+    commands: &[Description<'_, 'a>],
 ) -> Result<Command<'a>, AllocError>
-    ensures { (above below : App) → below.top.is_plain ≡ true → IfOk program.entry (λ c. app_of c ≡ above)
-        → IfOk command.entry (λ c. app_of c ≡ below) → IfOk result (λ c. app_of c ≡ with_subcommand above below.top) }
+    requires plain { IsTrue (list_all is_plain_by commands.now) }
+    ensures { IfOk result (λ c. app_of c ≡ with_commands (app_of program.entry) commands.entry.now) }
 {
-    let program = program?;
-    let command = command?;
-    program.subcommand(command)
-}
-
-/// `NAME INSTANCE SOLUTION`.
-pub fn files_description<'a>(alloc: Global, name: &'a str) -> Result<Command<'a>, AllocError>
-    ensures { IfOk result (λ c. app_of c ≡ files_app name.entry.now) }
-{
-    let instance = with(Ok(Command::new(alloc, name)), named(alloc, "INSTANCE"));
-    with(instance, named(alloc, "SOLUTION"))
+    match commands.split_first() {
+        None => Ok(program),
+        Some((first, others)) => {
+            let program = program.subcommand(command(alloc, first)?)?;
+            with_commands(alloc, program, others)
+        }
+    }
 }

@@ -1,26 +1,27 @@
 //! What `clap` reads of the words of a command, and the values that it gives to the arguments.
 ghost use Rattle.std.specs.Prelude.{◌≡◌, IfErr, IfOk, true, map, option_map, string_bytes};
-ghost use Rattle.clap.specs.Words.{App, HasKind, app_of, fault_of, first_of, found_of, is_simple_and_free, rows_of};
+ghost use Rattle.clap.specs.Words.{HasKind, fault_of, first_of, found_of, is_simple_and_free, rows_of};
+ghost use Rattle.ih_arguments.specs.Arguments.{app_by};
 ghost use Rattle.ih_arguments.specs.Matches.{HasNumber, HasText, IsNumberIfGiven, flag_at};
 ghost use Rattle.ih_arguments.specs.Matches.{is_given, number_at, number_if_given, text_at};
 ghost use Rattle.ih_arguments.specs.Rules.{AreMatches, has_independent_rules};
 
+use crate::arguments::{Description, command};
 use clap::ArgMatches;
-use std::alloc::AllocError;
+use std::alloc::Global;
 
 /// What `clap` reads of the words of a command with this description, or its error, which has a text for the user.
 pub fn matched<'a>(
-    description: Result<clap::Command<'a>, AllocError>,
+    alloc: Global,
+    description: &Description<'_, 'a>,
     words: &'a [String],
 ) -> Result<ArgMatches<'a>, clap::Error>
-    ghost app: { App }
-    requires described { IfOk description (λ d. app_of d ≡ app) }
-    requires simple { is_simple_and_free app ≡ true }
-    requires independent { has_independent_rules app ≡ true }
-    ensures matched { IfOk result (AreMatches app (map string_bytes words.entry.now)) }
-    ensures faults { IfErr result (HasKind (fault_of app (map string_bytes words.entry.now))) }
+    requires simple { is_simple_and_free (app_by description.now) ≡ true }
+    requires independent { has_independent_rules (app_by description.now) ≡ true }
+    ensures matched { IfOk result (AreMatches (app_by description.entry.now) (map string_bytes words.entry.now)) }
+    ensures faults { IfErr result (HasKind (fault_of (app_by description.entry.now) (map string_bytes words.entry.now))) }
 {
-    let command = description?;
+    let command = command(alloc, description)?;
     match command.try_get_matches_from(words) {
         Ok(matches) => Ok(matches),
         Err(error) => Err(error),
@@ -86,4 +87,12 @@ pub fn number_if_given(matches: &ArgMatches, id: &str) -> Option<u32>
     ensures { result ≡ number_if_given id.now (rows_of (found_of matches.now)) }
 {
     matches.get_one::<u32>(id)
+}
+
+/// The same, of any number of 64 bits.
+pub fn any_number_if_given(matches: &ArgMatches, id: &str) -> Option<u64>
+    requires { IsNumberIfGiven 0 18446744073709551615 id.now (rows_of (found_of matches.now)) }
+    ensures { result ≡ number_if_given id.now (rows_of (found_of matches.now)) }
+{
+    matches.get_one::<u64>(id)
 }

@@ -1,14 +1,14 @@
 //! What a search starts from, and the first day whose choices it may change: `--start F`, `--freeze DAY` and `--fill`.
 ghost use Rattle.std.specs.Prelude.{◌≡◌, codes};
 ghost use Rattle.clap.specs.Words.{found_of, rows_of};
-ghost use Rattle.ih_arguments.specs.Start.{freezes_a_file, start_call, start_in, with_start};
-ghost use Rattle.ih_arguments.specs.{Arguments.IsChanged, Matches.IsNumberIfGiven};
+ghost use Rattle.ih_arguments.specs.Start.{freezes_a_file, start_call, start_in};
+ghost use Rattle.ih_arguments.specs.Matches.{IsNumberIfGiven};
 
-use crate::arguments::{flag, optional, optional_number, with};
+use crate::argument;
+use crate::arguments::{Argument, Kind};
 use crate::matches::{flag_of, is_given, optional_text_of, optional_u32_of};
-use clap::{ArgMatches, Command};
+use clap::ArgMatches;
 use ih_plan::MAX_FREEZE;
-use std::alloc::{AllocError, Global};
 
 /// What a search starts from.
 #[derive(Clone, Copy, Debug)]
@@ -21,17 +21,26 @@ pub struct Start<'a> {
     pub freeze: u32,
 }
 
-/// The description with `--start F`, `--freeze DAY` and `--fill`.
-pub fn with_start<'a>(
-    alloc: Global,
-    description: Result<Command<'a>, AllocError>,
-) -> Result<Command<'a>, AllocError>
-    ensures { IsChanged with_start description.entry result }
-{
-    let start = with(description, optional(alloc, "start"));
-    let freeze = with(start, optional_number(alloc, "freeze", MAX_FREEZE));
-    with(freeze, flag(alloc, "fill"))
-}
+/// `--start F`.
+pub const START: Argument<'static> = argument!(
+    "start",
+    Kind::Optional,
+    "The file of a solution to start from [default: a fill from nobody]"
+);
+
+/// `--freeze DAY`.
+pub const FREEZE: Argument<'static> = argument!(
+    "freeze",
+    Kind::OptionalNumber(0, MAX_FREEZE),
+    "The first day whose choices may change; it needs '--start' [default: 0]"
+);
+
+/// `--fill`.
+pub const FILL: Argument<'static> = argument!(
+    "fill",
+    Kind::Flag,
+    "Fills the start before the search; not with '--freeze'"
+);
 
 /// What the search starts from.
 pub fn start_in<'a>(matches: &ArgMatches<'a>) -> Start<'a>

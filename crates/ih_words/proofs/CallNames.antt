@@ -10,20 +10,17 @@ use Rattle.clap.specs.Words.{App, Text, matches_of}
 use Rattle.ih_journal.specs.Settings.{most_entries}
 use Rattle.ih_journal.specs.declared.settings.TheConstants.{MAX_ENTRIES}
 use Rattle.ih_words.specs.Advise.{advise_app, lawful_advise}
-use Rattle.ih_words.specs.Chain.{chain_app, lawful_chain}
 use Rattle.ih_words.specs.Check.{check_app, lawful_check}
 use Rattle.ih_words.specs.Demo.{demo_app, lawful_demo}
 use Rattle.ih_arguments.specs.Distinct.{all_differ}
 use Rattle.ih_words.specs.Generate.{gen_app, lawful_gen}
 use Rattle.ih_arguments.specs.Matches.{call_by, has_no_fault, number_at}
-use Rattle.ih_words.specs.Plain.{IsWithin, PlainCall, is_lawful_plain, is_number_to, lawful_plain_to, plain_search_in}
+use Rattle.ih_words.specs.Plain.{IsWithin, PlainCall, chain_app, is_lawful_plain, is_number_to, lawful_chain, lawful_plain_to, lawful_rounds, plain_search_in, rounds_app}
 use Rattle.ih_words.specs.Replay.{lawful_replay, replay_app}
-use Rattle.ih_words.specs.Rounds.{lawful_rounds, rounds_app}
 use Rattle.ih_words.specs.Solve.{SolveCall, is_lawful_solve, lawful_solve, solve_app, solve_files, solve_in}
 use Rattle.ih_arguments.specs.Start.{freezes_a_file, start_files}
 use Rattle.ih_words.specs.Words.{Call, call_of, call_named, chain, check, demo, gen, replay, rounds, salvage, solve, advise, IsWithinLimits, NamedCallsAreWithinLimits, OutDiffers}
-use Rattle.ih_words.specs.declared.chain.TheConstants.{MAX_LENGTH}
-use Rattle.ih_words.specs.declared.rounds.TheConstants.{MAX_ROUNDS}
+use Rattle.ih_words.specs.declared.plain.TheConstants.{MAX_LENGTH, MAX_ROUNDS}
 
 files-apart : (s : SolveCall) → all_differ (solve_files s) ≡ true → s.out ≢ s.journal
 unfolding all_differ
@@ -55,14 +52,13 @@ lawful make true true x holds call e = subst Holds (let f : Some (make x) ≡ So
 lawful make true false x holds call e = absurd (let no-way : None ≡ Some call = e in cc)
 lawful make false is-lawful x holds call e = absurd (let no-way : None ≡ Some call = e in cc)
 
--- a call may be changed before it is asked whether it is lawful
-moved : {A B : Type 0} (of : A → B) (no-fault is-number is-lawful : Bool) (x : A)
-    → (if no-fault then option_map of (if is-number then if is-lawful then Some x else None else None) else None)
-    ≡ (if no-fault then if is-number && is-lawful then Some (of x) else None else None)
-moved of true true true x = refl
-moved of true true false x = refl
-moved of true false is-lawful x = refl
-moved of false is-number is-lawful x = refl
+-- a lawful call has its number in its range, too
+both : (no-fault is-number is-lawful : Bool) (x : PlainCall)
+    → (if no-fault then if is-number then if is-lawful then Some x else None else None else None)
+    ≡ (if no-fault then if is-number && is-lawful then Some x else None else None)
+both true true is-lawful x = refl
+both true false is-lawful x = refl
+both false is-number is-lawful x = refl
 
 -- the command whose name this is, or one of the rest
 either : (t : Bool) (o rest : Option Call) (call : Call) → (o ≡ Some call → Holds call) → (rest ≡ Some call → Holds call)
@@ -93,26 +89,26 @@ module _ (words : List Text) (call : Call) where
       (λ h. (files-apart (solve_in rows) (and_parts (all_differ (solve_files (solve_in rows))) _ (and_parts (freezes_a_file rows) _ h).1).0, tt)) call
 
   -- a command with a plain search
-  by_plain : {A : Type 0} (make : A → Call) (of : PlainCall → A) (app : App) (id : Text) (high : ℕ)
-      → ((c : PlainCall) → c.search.out ≢ c.search.journal → IsWithin high c.search c.number → Holds (make (of c)))
-      → option_map make (call_by app (λ rows. option_map of (lawful_plain_to high id rows)) words) ≡ Some call → Holds call
-  by_plain make of app id high holds e =
+  by_plain : (make : PlainCall → Call) (app : App) (id : Text) (high : ℕ)
+      → ((c : PlainCall) → c.search.out ≢ c.search.journal → IsWithin high c.search c.number → Holds (make c))
+      → option_map make (call_by app (lawful_plain_to high id) words) ≡ Some call → Holds call
+  by_plain make app id high holds e =
       let rows = matches_of app words in
       let c : PlainCall = record { search = plain_search_in rows; number = number_at id rows } in
       let no-fault = has_no_fault app words in
       let is-number = is_number_to high c.number in
       let is-lawful = is_lawful_plain c.search c.number in
-      lawful make no-fault (is-number && is-lawful) (of c)
+      lawful make no-fault (is-number && is-lawful) c
       (λ h.
-      let both = and_parts is-number is-lawful h in
-      holds c (files-apart c.search (and_parts (all_differ (solve_files c.search)) _ both.1).0) (within high c refl refl both.0 both.1)) call
-      (ap (option_map make) (sym (moved of no-fault is-number is-lawful c)) ∙ e)
+      let parts = and_parts is-number is-lawful h in
+      holds c (files-apart c.search (and_parts (all_differ (solve_files c.search)) _ parts.1).0) (within high c refl refl parts.0 parts.1)) call
+      (ap (option_map make) (sym (both no-fault is-number is-lawful c)) ∙ e)
 
   by_chain : option_map chain (call_by chain_app lawful_chain words) ≡ Some call → Holds call
-  by_chain = by_plain chain (λ c. record { search = c.search; length = c.number }) chain_app (codes "length") MAX_LENGTH (λ c apart few. (apart, few))
+  by_chain = by_plain chain chain_app (codes "length") MAX_LENGTH (λ c apart few. (apart, few))
 
   by_rounds : option_map rounds (call_by rounds_app lawful_rounds words) ≡ Some call → Holds call
-  by_rounds = by_plain rounds (λ c. record { search = c.search; rounds = c.number }) rounds_app (codes "rounds") MAX_ROUNDS (λ c apart few. (apart, few))
+  by_rounds = by_plain rounds rounds_app (codes "rounds") MAX_ROUNDS (λ c apart few. (apart, few))
 
   by_name : (name : Text) → call_named name words ≡ Some call → Holds call
   by_name name =

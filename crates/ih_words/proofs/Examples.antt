@@ -3,7 +3,6 @@ use Rattle.std.proofs.Common.{◌≡◌, ℕ, [], ◌∷◌, ◌++◌, List, ref
 use Rattle.clap.specs.Words.{Text}
 use Rattle.clap.proofs.OnLiterals.{clap_on_literals}
 use Rattle.ih_words.specs.Advise.{advise_app}
-use Rattle.ih_words.specs.Chain.{chain_app}
 use Rattle.ih_words.specs.Check.{check_app}
 use Rattle.ih_words.specs.Demo.{demo_app}
 use Rattle.ih_arguments.specs.Distinct.{all_differ}
@@ -11,7 +10,6 @@ use Rattle.ih_words.specs.Generate.{gen_app}
 use Rattle.ih_arguments.specs.Matches.{has_no_fault}
 use Rattle.ih_words.specs.Plain.{plain_app}
 use Rattle.ih_words.specs.Replay.{replay_app}
-use Rattle.ih_words.specs.Rounds.{rounds_app}
 use Rattle.ih_words.specs.Solve.{SolveCall, solve_app}
 use Rattle.ih_words.specs.Words.{Call, call_of, chain, check, demo, gen, replay, rounds, salvage, solve, advise}
 
@@ -147,13 +145,13 @@ plain_words command moves more = command ∷ codes "i" ∷ codes "o" ∷ codes "
     ++ codes "--workers" ∷ codes "1" ∷ codes "--moves" ∷ moves ∷ codes "--heat" ∷ codes "0" ∷ codes "--hard" ∷ codes "1000" ∷ more)
 
 in_rounds : call_of (plain_words (codes "rounds") (codes "62500") (codes "--rounds" ∷ codes "16" ∷ codes "--start" ∷ codes "s" ∷ codes "--fill" ∷ []))
-    ≡ Some (rounds (record { search = filled_search 62500; rounds = 16 }))
-unfolding clap_on_literals call_of has_no_fault rounds_app plain_app all_differ
+    ≡ Some (rounds (record { search = filled_search 62500; number = 16 }))
+unfolding clap_on_literals call_of has_no_fault plain_app all_differ
 in_rounds = refl
 
 in_chains : call_of (plain_words (codes "chain") (codes "125000") (codes "--length" ∷ codes "8" ∷ codes "--start" ∷ codes "s" ∷ codes "--fill" ∷ []))
-    ≡ Some (chain (record { search = filled_search 125000; length = 8 }))
-unfolding clap_on_literals call_of has_no_fault chain_app plain_app all_differ
+    ≡ Some (chain (record { search = filled_search 125000; number = 8 }))
+unfolding clap_on_literals call_of has_no_fault plain_app all_differ
 in_chains = refl
 
 -- Words with too many entries, with the highest number and one more, with 0, without a number, with retries, and with a
@@ -169,11 +167,11 @@ unlawful_words command id moves highest above =
     ∷ []
 
 unlawful_rounds : NameNone (unlawful_words (codes "rounds") (codes "--rounds") (codes "62501") (codes "16") (codes "17"))
-unfolding clap_on_literals call_of has_no_fault rounds_app plain_app all_differ
+unfolding clap_on_literals call_of has_no_fault plain_app all_differ
 unlawful_rounds = (refl, (refl, (refl, (refl, (refl, (refl, tt))))))
 
 unlawful_chains : NameNone (unlawful_words (codes "chain") (codes "--length") (codes "125001") (codes "8") (codes "9"))
-unfolding clap_on_literals call_of has_no_fault chain_app plain_app all_differ
+unfolding clap_on_literals call_of has_no_fault plain_app all_differ
 unlawful_chains = (refl, (refl, (refl, (refl, (refl, (refl, tt))))))
 
 generated : call_of (codes "gen" ∷ codes "+007" ∷ codes "o" ∷ []) ≡ Some (gen (record { number = 7; out = codes "o" }))

@@ -1,12 +1,11 @@
 -- What the rules of a plain search say of its matches.
-use Rattle.std.proofs.Common.{◌≡◌, ◌≤◌, ℕ, Bool, true, false, List, Option, None, option_map, codes, refl, le-leb}
-use Rattle.std.specs.Prelude.{if◌then◌else◌}
-use Rattle.clap.specs.Words.{App, Row, Rule, Text, matches_of}
+use Rattle.std.proofs.Common.{◌≡◌, ◌≤◌, ℕ, List, codes, refl, le-leb}
+use Rattle.clap.specs.Words.{Row, Rule, Text}
 use Rattle.ih_plan.specs.declared.limits.TheConstants.{MAX_HARD, MAX_HEAT, MAX_WORKERS}
 use Rattle.ih_journal.specs.declared.settings.TheConstants.{MAX_MOVES}
 use Rattle.ih_arguments.specs.Arguments.{named, numbered_option, seed_option}
-use Rattle.ih_arguments.specs.Matches.{HasNumber, HasText, call_by, has_no_fault, number_at}
-use Rattle.ih_words.specs.Plain.{HasPlain, PlainCall, lawful_plain, lawful_plain_to, plain_app}
+use Rattle.ih_arguments.specs.Matches.{HasNumber, HasText, number_at}
+use Rattle.ih_words.specs.Plain.{HasPlain, lawful_plain, lawful_plain_to, plain_app}
 use Rattle.ih_arguments.specs.Rules.{Requires, RequiresNumber}
 use Rattle.ih_arguments.proofs.DescriptionRules.{requires_name, requires_number}
 
@@ -47,12 +46,3 @@ pub lawful_plain_to-within : (high : ℕ) (id : Text) (rows : List Row) → (1 �
     → lawful_plain_to high id rows ≡ lawful_plain id rows
 lawful_plain_to-within high id rows range =
     rw (le-leb 1 (number_at id rows) range.0, le-leb (number_at id rows) high range.1) refl
-
--- a call may be changed before it is asked whether the words have a fault
-pub moved : {A : Type 0} (of : PlainCall → A) (app : App) (high : ℕ) (id : Text) (words : List Text)
-    → call_by app (λ rows. option_map of (lawful_plain_to high id rows)) words ≡ option_map of (call_by app (lawful_plain_to high id) words)
-moved of app high id words = go (has_no_fault app words) (lawful_plain_to high id (matches_of app words))
-  where
-    go : (b : Bool) (o : Option PlainCall) → (if b then option_map of o else None) ≡ option_map of (if b then o else None)
-    go true o = refl
-    go false o = refl

@@ -1,11 +1,9 @@
 pub mod Advise
-pub mod Chain
 pub mod Check
 pub mod Demo
 pub mod Generate
 pub mod Plain
 pub mod Replay
-pub mod Rounds
 pub mod SearchOptions
 pub mod Solve
 pub mod Words

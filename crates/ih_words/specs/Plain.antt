@@ -9,6 +9,8 @@ use Rattle.ih_arguments.specs.Distinct.{all_differ}
 use Rattle.ih_arguments.specs.Matches.{HasNames, flag_at, number_at, text_at}
 use Rattle.ih_words.specs.SearchOptions.{HasOptions, options_in}
 use Rattle.ih_words.specs.Solve.{SolveCall, search_app, solve_call, solve_files}
+use Rattle.ih_words.specs.declared.plain.Plain.{Plain}
+use Rattle.ih_words.specs.declared.plain.TheConstants.{MAX_LENGTH, MAX_ROUNDS}
 use Rattle.ih_words.specs.declared.solve.Solve.{Solve}
 
 -- NAME INSTANCE OUT JOURNAL --seed N --workers N --moves N --heat N --hard N --ID N [--start F] [--fill]
@@ -18,6 +20,14 @@ plain_app name id high = with_rule (with_rule (with_rule (search_app name)
     (optional (codes "start")))
     (flag (codes "fill"))
 
+-- chain: how many moves each chain has is from 1 to 8
+abbrev pub chain_app : App
+chain_app = plain_app (codes "chain") (codes "length") MAX_LENGTH
+
+-- rounds: how many searches there are is from 1 to 16
+abbrev pub rounds_app : App
+rounds_app = plain_app (codes "rounds") (codes "rounds") MAX_ROUNDS
+
 -- the options are lawful, no stale move is tried again, and nothing is frozen
 pub record IsPlain (s : Solve) : Type 0 where
   pub lawful : IsLawful s.options
@@ -25,20 +35,21 @@ pub record IsPlain (s : Solve) : Type 0 where
   pub unfrozen : s.start.freeze ≡ 0
 
 -- such a search with a number from 1 to `high`: its entries, so many times taken, are at most a million
-pub record IsPlainWith (high : ℕ) (s : Solve) (times : ℕ) : Type 0 where
-  pub search : IsPlain s
-  pub some : 1 ≤ times
-  pub most : times ≤ high
-  pub few : most_entries s.options * times ≤ MAX_ENTRIES
+pub record IsPlainTo (high : ℕ) (p : Plain) : Type 0 where
+  pub search : IsPlain p.search
+  pub some : 1 ≤ p.number
+  pub most : p.number ≤ high
+  pub few : most_entries p.search.options * p.number ≤ MAX_ENTRIES
 
--- what a call of such a command asks for
+-- what a call of chain or of rounds asks for: the search, and how many moves each chain has, or how many searches there
+-- are
 pub record PlainCall : Type 0 where
   pub search : SolveCall
   pub number : ℕ
 
--- the call that such a search with its number stands for
-abbrev pub plain_call : Solve × ℕ → PlainCall
-plain_call p = record { search = solve_call p.0; number = p.1 }
+-- the call that the values of chain or of rounds stand for
+abbrev pub plain_call : Plain → PlainCall
+plain_call p = record { search = solve_call p.search; number = p.number }
 
 -- the file names and the options of a search are there
 pub record HasPlain (rows : List Row) : Type 0 where
@@ -69,9 +80,16 @@ lawful_plain id rows =
 abbrev pub is_number_to : ℕ → ℕ → Bool
 is_number_to high n = nat_le 1 n && nat_le n high
 
--- the lawful call, where its number is from 1 to `high`
+-- the lawful call, where its number is from 1 to `high`: its file names differ, and its journals have together at most a
+-- million entries, or its chains a million moves
 abbrev pub lawful_plain_to : ℕ → Text → List Row → Option PlainCall
 lawful_plain_to high id rows = if is_number_to high (number_at id rows) then lawful_plain id rows else None
+
+abbrev pub lawful_chain : List Row → Option PlainCall
+lawful_chain = lawful_plain_to MAX_LENGTH (codes "length")
+
+abbrev pub lawful_rounds : List Row → Option PlainCall
+lawful_rounds = lawful_plain_to MAX_ROUNDS (codes "rounds")
 
 -- What a lawful call is within: nothing is frozen, no stale move is tried again, the number is from 1 to `high`, and
 -- the entries, so many times taken, are at most a million.

@@ -4,17 +4,14 @@ use Rattle.std.specs.Str.{bytes_eq}
 use Rattle.clap.specs.Words.{Text}
 use Rattle.ih_journal.specs.Settings.{IsLawful}
 use Rattle.ih_words.specs.Advise.{AdviseCall, IsLawfulAdvise, advise_app, advise_call, lawful_advise}
-use Rattle.ih_words.specs.Chain.{ChainCall, IsLawfulChain, chain_app, chain_call, lawful_chain}
 use Rattle.ih_words.specs.Check.{CheckCall, check_app, check_call, lawful_check}
 use Rattle.ih_words.specs.Demo.{demo_app, lawful_demo}
 use Rattle.ih_words.specs.Generate.{GenCall, gen_app, gen_call, lawful_gen}
 use Rattle.ih_arguments.specs.Matches.{by_first_word, call_by}
-use Rattle.ih_words.specs.Plain.{IsWithin}
+use Rattle.ih_words.specs.Plain.{IsPlainTo, IsWithin, PlainCall, chain_app, lawful_chain, lawful_rounds, plain_call, rounds_app}
 use Rattle.ih_words.specs.Replay.{ReplayCall, lawful_replay, replay_app, replay_call}
-use Rattle.ih_words.specs.Rounds.{IsLawfulRounds, RoundsCall, lawful_rounds, rounds_app, rounds_call}
 use Rattle.ih_words.specs.Solve.{SolveCall, lawful_solve, solve_app, solve_call}
-use Rattle.ih_words.specs.declared.chain.TheConstants.{MAX_LENGTH}
-use Rattle.ih_words.specs.declared.rounds.TheConstants.{MAX_ROUNDS}
+use Rattle.ih_words.specs.declared.plain.TheConstants.{MAX_LENGTH, MAX_ROUNDS}
 use Rattle.ih_words.specs.declared.command.Command.{Command}
 use Rattle.ih_words.specs.declared.command.Command.TheVariants.{Chain as ChainCommand, Check as CheckCommand, Demo as DemoCommand, Gen as GenCommand, Replay as ReplayCommand, Rounds as RoundsCommand, Salvage as SalvageCommand, Solve as SolveCommand, Advise as AdviseCommand}
 
@@ -24,8 +21,8 @@ pub data Call : Type 0 where
   replay : ReplayCall → Call
   salvage : ReplayCall → Call
   check : CheckCall → Call
-  chain : ChainCall → Call
-  rounds : RoundsCall → Call
+  chain : PlainCall → Call
+  rounds : PlainCall → Call
   advise : AdviseCall → Call
   gen : GenCall → Call
   demo : ℕ → Call
@@ -43,8 +40,8 @@ command_call (SolveCommand s) = solve (solve_call s)
 command_call (ReplayCommand r) = replay (replay_call r)
 command_call (SalvageCommand r) = salvage (replay_call r)
 command_call (CheckCommand c) = check (check_call c)
-command_call (ChainCommand c) = chain (chain_call c)
-command_call (RoundsCommand r) = rounds (rounds_call r)
+command_call (ChainCommand c) = chain (plain_call c)
+command_call (RoundsCommand r) = rounds (plain_call r)
 command_call (AdviseCommand a) = advise (advise_call a)
 command_call (GenCommand g) = gen (gen_call g)
 command_call (DemoCommand number) = demo number
@@ -53,8 +50,8 @@ command_call (DemoCommand number) = demo number
 -- try nothing again.
 abbrev pub HasLawfulOptions : Command → Type 0
 HasLawfulOptions (SolveCommand s) = IsLawful s.options
-HasLawfulOptions (ChainCommand c) = IsLawfulChain c
-HasLawfulOptions (RoundsCommand r) = IsLawfulRounds r
+HasLawfulOptions (ChainCommand c) = IsPlainTo MAX_LENGTH c
+HasLawfulOptions (RoundsCommand r) = IsPlainTo MAX_ROUNDS r
 HasLawfulOptions (AdviseCommand a) = IsLawfulAdvise a
 HasLawfulOptions command = Unit {0}
 
@@ -83,8 +80,8 @@ IsNamed call = (words : List Text) × (call_of words ≡ Some call)
 
 -- the limits of chains and of rounds
 abbrev pub IsWithinLimits : Call → Type 0
-IsWithinLimits (chain c) = IsWithin MAX_LENGTH c.search c.length
-IsWithinLimits (rounds r) = IsWithin MAX_ROUNDS r.search r.rounds
+IsWithinLimits (chain c) = IsWithin MAX_LENGTH c.search c.number
+IsWithinLimits (rounds r) = IsWithin MAX_ROUNDS r.search r.number
 IsWithinLimits call = Unit {0}
 
 -- A call that some words name is within these limits.

@@ -1,18 +1,17 @@
 //! The command `advise`: its description for `clap`, its values and when they are lawful.
 ghost use Rattle.std.specs.Prelude.{◌≡◌, IfOk, IfSome, map, option_map, string_bytes};
-ghost use Rattle.clap.specs.Words.{app_of, found_of, rows_of};
+ghost use Rattle.clap.specs.Words.{found_of, rows_of};
 ghost use Rattle.ih_words.specs.Advise.{HasAdvise, IsLawfulAdvise, advise_app, advise_call, advise_in, lawful_advise};
 ghost use Rattle.ih_arguments.specs.Matches.{call_by};
 ghost use Rattle.ih_words.specs.SearchOptions.{IsAnswer};
 
 use crate::WordsError;
-use crate::search_options::matches_in;
-use clap::{ArgMatches, Command};
-use ih_arguments::arguments::{files_description, numbered_option, with};
+use crate::search_options::{HARD, INSTANCE, SOLUTION, WORKERS, matches_in};
+use clap::ArgMatches;
+use ih_arguments::arguments::Description;
 use ih_arguments::file_names::all_differ;
 use ih_arguments::matches::{text_of, u32_of};
-use ih_journal::{MAX_HARD, MAX_WORKERS};
-use std::alloc::{AllocError, Global};
+use std::alloc::Global;
 
 /// `advise INSTANCE SOLUTION` with its options.
 #[derive(Clone, Copy, Debug)]
@@ -28,13 +27,12 @@ pub struct Advise<'a> {
 }
 
 // `advise INSTANCE SOLUTION --hard N --workers N`.
-fn advise_description<'a>(alloc: Global) -> Result<Command<'a>, AllocError>
-    ensures { IfOk result (λ c. app_of c ≡ advise_app) }
-{
-    let files = files_description(alloc, "advise");
-    let hard = with(files, numbered_option(alloc, "hard", 0, MAX_HARD));
-    with(hard, numbered_option(alloc, "workers", 1, MAX_WORKERS))
-}
+const ADVISE: Description<'static, 'static> = Description {
+    name: "advise",
+    about: "",
+    called: "",
+    arguments: &[INSTANCE, SOLUTION, HARD, WORKERS],
+};
 
 // The values of `advise`.
 fn advise_in<'a>(matches: &ArgMatches<'a>) -> Advise<'a>
@@ -70,6 +68,6 @@ pub(crate) fn read_advise<'a>(alloc: Global, words: &'a [String]) -> Result<Advi
     ensures read { IsAnswer advise_call (call_by advise_app lawful_advise (map string_bytes words.entry.now)) result }
     ensures lawful { IfOk result IsLawfulAdvise }
 {
-    let matches = matches_in(advise_description(alloc), words)?;
+    let matches = matches_in(alloc, &ADVISE, words)?;
     lawful_advise(&matches).ok_or(WordsError::Unlawful)
 }

@@ -6,9 +6,9 @@ ghost use Rattle.ih_arguments.specs.Matches.{HasFiles, call_by};
 ghost use Rattle.ih_words.specs.SearchOptions.{IsAnswer};
 
 use crate::WordsError;
-use crate::search_options::matches_in;
+use crate::search_options::{INSTANCE, SOLUTION, matches_in};
 use clap::ArgMatches;
-use ih_arguments::arguments::files_description;
+use ih_arguments::arguments::Description;
 use ih_arguments::file_names::all_differ;
 use ih_arguments::matches::text_of;
 use std::alloc::Global;
@@ -21,6 +21,14 @@ pub struct Check<'a> {
     /// The name of the solution's file.
     pub solution: &'a str,
 }
+
+// `check INSTANCE SOLUTION`.
+const CHECK: Description<'static, 'static> = Description {
+    name: "check",
+    about: "",
+    called: "",
+    arguments: &[INSTANCE, SOLUTION],
+};
 
 // The values of `check`, where the file names differ.
 fn lawful_check<'a>(matches: &ArgMatches<'a>) -> Option<Check<'a>>
@@ -43,6 +51,6 @@ fn lawful_check<'a>(matches: &ArgMatches<'a>) -> Option<Check<'a>>
 pub(crate) fn read_check<'a>(alloc: Global, words: &'a [String]) -> Result<Check<'a>, WordsError>
     ensures { IsAnswer check_call (call_by check_app lawful_check (map string_bytes words.entry.now)) result }
 {
-    let matches = matches_in(files_description(alloc, "check"), words)?;
+    let matches = matches_in(alloc, &CHECK, words)?;
     lawful_check(&matches).ok_or(WordsError::Unlawful)
 }

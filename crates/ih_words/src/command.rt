@@ -4,14 +4,13 @@ ghost use Rattle.ih_words.specs.SearchOptions.{IsAnswer};
 ghost use Rattle.ih_words.specs.Words.{HasLawfulOptions, call_named, call_of, command_call};
 
 use crate::advise::read_advise;
-use crate::chain::read_chain;
 use crate::check::read_check;
 use crate::demo::read_demo;
 use crate::generate::read_gen;
+use crate::plain::{CHAIN, MAX_LENGTH, MAX_ROUNDS, ROUNDS, read_plain};
 use crate::replay::read_replay;
-use crate::rounds::read_rounds;
 use crate::solve::read_solve;
-use crate::{Advise, Chains, Check, Gen, Replay, Rounds, Solve, WordsError};
+use crate::{Advise, Check, Gen, Plain, Replay, Solve, WordsError};
 use std::alloc::Global;
 
 /// A lawful command with its values.
@@ -26,10 +25,10 @@ pub enum Command<'a> {
     /// Tells the costs of a solution.
     Check(Check<'a>),
     /// Searches by chains of moves, and writes the journal and the best solution.
-    Chain(Chains<'a>),
+    Chain(Plain<'a>),
     /// Searches several times, each time from the best of the search before, and writes the journals and the best
     /// solution.
-    Rounds(Rounds<'a>),
+    Rounds(Plain<'a>),
     /// Tells the best single change of each choice of a solution.
     Advise(Advise<'a>),
     /// Writes the instance that is made from a number.
@@ -48,8 +47,14 @@ fn read_named<'a>(alloc: Global, name: &str, words: &'a [String]) -> Result<Comm
         "replay" => Ok(Command::Replay(read_replay(alloc, "replay", words)?)),
         "salvage" => Ok(Command::Salvage(read_replay(alloc, "salvage", words)?)),
         "check" => Ok(Command::Check(read_check(alloc, words)?)),
-        "chain" => Ok(Command::Chain(read_chain(alloc, words)?)),
-        "rounds" => Ok(Command::Rounds(read_rounds(alloc, words)?)),
+        "chain" => {
+            let plain = read_plain(alloc, &CHAIN, "length", MAX_LENGTH, words)?;
+            Ok(Command::Chain(plain))
+        }
+        "rounds" => {
+            let plain = read_plain(alloc, &ROUNDS, "rounds", MAX_ROUNDS, words)?;
+            Ok(Command::Rounds(plain))
+        }
         "advise" => Ok(Command::Advise(read_advise(alloc, words)?)),
         "gen" => Ok(Command::Gen(read_gen(alloc, words)?)),
         "demo" => Ok(Command::Demo(read_demo(alloc, words)?)),

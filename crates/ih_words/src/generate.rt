@@ -1,16 +1,16 @@
 //! The command `gen`: its description for `clap` and its values.
-ghost use Rattle.std.specs.Prelude.{◌≡◌, IfOk, codes, map, string_bytes};
-ghost use Rattle.clap.specs.Words.{app_of, found_of, rows_of};
+ghost use Rattle.std.specs.Prelude.{◌≡◌, codes, map, string_bytes};
+ghost use Rattle.clap.specs.Words.{found_of, rows_of};
 ghost use Rattle.ih_words.specs.Generate.{gen_app, gen_call, gen_in, lawful_gen};
 ghost use Rattle.ih_arguments.specs.Matches.{HasNumber, HasText, call_by};
 ghost use Rattle.ih_words.specs.SearchOptions.{IsAnswer};
 
 use crate::WordsError;
-use crate::search_options::matches_in;
-use clap::{ArgMatches, Command};
-use ih_arguments::arguments::{named, named_number, with};
+use crate::search_options::{NUMBER, OUT, matches_in};
+use clap::ArgMatches;
+use ih_arguments::arguments::Description;
 use ih_arguments::matches::{text_of, u64_of};
-use std::alloc::{AllocError, Global};
+use std::alloc::Global;
 
 /// `gen NUMBER OUT`.
 #[derive(Clone, Copy, Debug)]
@@ -22,15 +22,12 @@ pub struct Gen<'a> {
 }
 
 // `gen NUMBER OUT`.
-fn gen_description<'a>(alloc: Global) -> Result<Command<'a>, AllocError>
-    ensures { IfOk result (λ c. app_of c ≡ gen_app) }
-{
-    let number = with(
-        Ok(Command::new(alloc, "gen")),
-        named_number(alloc, "NUMBER"),
-    );
-    with(number, named(alloc, "OUT"))
-}
+const GEN: Description<'static, 'static> = Description {
+    name: "gen",
+    about: "",
+    called: "",
+    arguments: &[NUMBER, OUT],
+};
 
 // The values of `gen`.
 fn gen_in<'a>(matches: &ArgMatches<'a>) -> Gen<'a>
@@ -48,6 +45,6 @@ fn gen_in<'a>(matches: &ArgMatches<'a>) -> Gen<'a>
 pub(crate) fn read_gen<'a>(alloc: Global, words: &'a [String]) -> Result<Gen<'a>, WordsError>
     ensures { IsAnswer gen_call (call_by gen_app lawful_gen (map string_bytes words.entry.now)) result }
 {
-    let matches = matches_in(gen_description(alloc), words)?;
+    let matches = matches_in(alloc, &GEN, words)?;
     Ok(gen_in(&matches))
 }

@@ -3,7 +3,6 @@
 #![tactic(auto)]
 
 mod advise;
-mod chain;
 mod check;
 mod command;
 mod demo;
@@ -12,18 +11,16 @@ mod generate;
 mod laws;
 mod plain;
 mod replay;
-mod rounds;
 mod search_options;
 mod solve;
 
 pub use advise::Advise;
-pub use chain::{Chains, MAX_LENGTH};
 pub use check::Check;
 pub use command::{Command, read_words};
 pub use error::WordsError;
 pub use generate::Gen;
 pub use ih_arguments::start::Start;
 pub use laws::named_calls_are_within_limits;
+pub use plain::{MAX_LENGTH, MAX_ROUNDS, Plain};
 pub use replay::Replay;
-pub use rounds::{MAX_ROUNDS, Rounds};
 pub use solve::Solve;

@@ -1,40 +1,43 @@
 //! Searches that freeze nothing and try no stale move again, and whose journal's length rests on one more number: what
 //! `rounds` and `chain` share.
 ghost use Rattle.std.specs.Prelude.{◌≡◌, ◌≤◌, ◌*◌, IfOk, IfSome, nat_le, true, map, option_map, string_bytes};
-ghost use Rattle.clap.specs.Words.{app_of, found_of, is_simple_and_free, rows_of};
+ghost use Rattle.clap.specs.Words.{found_of, is_simple_and_free, rows_of};
 ghost use Rattle.ih_journal.specs.Settings.{IsLawful, most_entries};
 ghost use Rattle.ih_arguments.specs.Matches.{HasNumber, call_by, number_at};
 ghost use Rattle.ih_words.specs.SearchOptions.{IsAnswer};
-ghost use Rattle.ih_words.specs.Plain.{HasPlain, IsPlain, IsPlainWith, is_lawful_plain, lawful_plain};
+ghost use Rattle.ih_words.specs.Plain.{HasPlain, IsPlain, IsPlainTo, is_lawful_plain, lawful_plain};
 ghost use Rattle.ih_words.specs.Plain.{lawful_plain_to, plain_app, plain_call, plain_search_in};
-ghost use Rattle.ih_arguments.specs.{Rules.has_independent_rules};
+ghost use Rattle.ih_arguments.specs.{Arguments.app_by, Rules.has_independent_rules};
 ghost use Rattle.ih_words.specs.{Solve.solve_call};
 
 use crate::WordsError;
-use crate::search_options::{matches_in, options_in};
-use crate::solve::{Solve, search_description};
-use clap::{ArgMatches, Command};
-use ih_arguments::arguments::{flag, numbered_option, optional, with};
+use crate::search_options::{
+    HARD, HEAT, INSTANCE, JOURNAL, MOVES, OUT, SEED, WORKERS, matches_in, options_in,
+};
+use crate::solve::Solve;
+use clap::ArgMatches;
+use ih_arguments::argument;
+use ih_arguments::arguments::{Argument, Description, Kind};
 use ih_arguments::file_names::names_differ;
 use ih_arguments::matches::{flag_of, optional_text_of, text_of, u32_of};
-use ih_arguments::start::Start;
+use ih_arguments::start::{FILL, START, Start};
 use ih_journal::{MAX_ENTRIES, Options};
-use std::alloc::{AllocError, Global};
+use std::alloc::Global;
 
-// `NAME INSTANCE OUT JOURNAL`, the options of a search, a required `--id N` from 1 to `high`, and `--start F` and
-// `--fill`, which may be left out.
-fn plain_description<'a>(
-    alloc: Global,
-    name: &'a str,
-    id: &'a str,
-    high: u32,
-) -> Result<Command<'a>, AllocError>
-    ensures { IfOk result (λ c. app_of c ≡ plain_app name.entry.now id.entry.now high) }
-{
-    let search = search_description(alloc, name);
-    let number = with(search, numbered_option(alloc, id, 1, high));
-    let start = with(number, optional(alloc, "start"));
-    with(start, flag(alloc, "fill"))
+/// The most moves of a chain.
+pub const MAX_LENGTH: u32 = 8;
+
+/// The most rounds.
+pub const MAX_ROUNDS: u32 = 16;
+
+/// `chain INSTANCE OUT JOURNAL` or `rounds INSTANCE OUT JOURNAL` with its options, of which only `--start F` and `--fill`
+/// may be left out.
+#[derive(Clone, Copy, Debug)]
+pub struct Plain<'a> {
+    /// The search, of rounds the first one, and where all is written. It freezes nothing and tries nothing stale again.
+    pub search: Solve<'a>,
+    /// How many moves each chain has, or how many searches there are.
+    pub number: u32,
 }
 
 // The search.
@@ -89,39 +92,79 @@ fn is_lawful_plain(search: &Solve, times: u32) -> bool
 }
 
 // The search and the number, where the file names differ and the entries are few enough.
-fn lawful_plain<'a>(matches: &ArgMatches<'a>, id: &str) -> Option<(Solve<'a>, u32)>
+fn lawful_plain<'a>(matches: &ArgMatches<'a>, id: &str) -> Option<Plain<'a>>
     requires search { HasPlain (rows_of (found_of matches.now)) }
     requires number { HasNumber 1 4294967295 id.now (rows_of (found_of matches.now)) }
     ensures value { option_map plain_call result ≡ lawful_plain id.now (rows_of (found_of matches.now)) }
-    ensures number { IfSome result (λ p. p.1 ≡ number_at id.now (rows_of (found_of matches.now))) }
-    ensures lawful { IfSome result (λ p. IsPlain p.0) }
-    ensures few { IfSome result (λ p. most_entries p.0.options * p.1 ≤ MAX_ENTRIES) }
+    ensures number { IfSome result (λ p. p.number ≡ number_at id.now (rows_of (found_of matches.now))) }
+    ensures lawful { IfSome result (λ p. IsPlain p.search) }
+    ensures few { IfSome result (λ p. most_entries p.search.options * p.number ≤ MAX_ENTRIES) }
 {
     let search = plain_search_in(matches);
     let number = u32_of(matches, id);
     if is_lawful_plain(&search, number) {
-        Some((search, number))
+        Some(Plain { search, number })
     } else {
         None
     }
 }
 
-// Reads the words of the command `name`, whose number is `--id N` from 1 to `high`: the search and the number.
+// `chain INSTANCE OUT JOURNAL` and its options.
+pub(crate) const CHAIN: Description<'static, 'static> = Description {
+    name: "chain",
+    about: "",
+    called: "",
+    arguments: &[
+        INSTANCE,
+        OUT,
+        JOURNAL,
+        SEED,
+        WORKERS,
+        MOVES,
+        HEAT,
+        HARD,
+        argument!("length", Kind::Number(1, MAX_LENGTH)),
+        START,
+        FILL,
+    ],
+};
+
+// `rounds INSTANCE OUT JOURNAL` and its options.
+pub(crate) const ROUNDS: Description<'static, 'static> = Description {
+    name: "rounds",
+    about: "",
+    called: "",
+    arguments: &[
+        INSTANCE,
+        OUT,
+        JOURNAL,
+        SEED,
+        WORKERS,
+        MOVES,
+        HEAT,
+        HARD,
+        argument!("rounds", Kind::Number(1, MAX_ROUNDS)),
+        START,
+        FILL,
+    ],
+};
+
+// Reads the words of such a command, whose number is `--id N` from 1 to `high`: the search and the number.
 pub(crate) fn read_plain<'a>(
     alloc: Global,
-    name: &'a str,
-    id: &'a str,
+    description: &Description<'_, 'a>,
+    id: &str,
     high: u32,
     words: &'a [String],
-) -> Result<(Solve<'a>, u32), WordsError>
-    requires simple { is_simple_and_free (plain_app name.now id.now high) ≡ true }
-    requires independent { has_independent_rules (plain_app name.now id.now high) ≡ true }
+) -> Result<Plain<'a>, WordsError>
+    requires described { app_by description.now ≡ plain_app description.now.name.now id.now high }
+    requires simple { is_simple_and_free (app_by description.now) ≡ true }
+    requires independent { has_independent_rules (app_by description.now) ≡ true }
     ensures read { IsAnswer plain_call
-        (call_by (plain_app name.entry.now id.entry.now high) (lawful_plain_to high id.entry.now)
+        (call_by (plain_app description.entry.now.name.now id.entry.now high) (lawful_plain_to high id.entry.now)
         (map string_bytes words.entry.now)) result }
-    ensures lawful { IfOk result (λ p. IsPlainWith high p.0 p.1) }
+    ensures lawful { IfOk result (IsPlainTo high) }
 {
-    let command = plain_description(alloc, name, id, high)?;
-    let matches = matches_in(Ok(command), words)?;
+    let matches = matches_in(alloc, description, words)?;
     lawful_plain(&matches, id).ok_or(WordsError::Unlawful)
 }

@@ -1,19 +1,19 @@
 //! The commands `replay` and `salvage`: their description for `clap`, their values and when these are lawful.
-ghost use Rattle.std.specs.Prelude.{◌≡◌, IfOk, codes, map, option_map, string_bytes};
-ghost use Rattle.clap.specs.Words.{app_of, found_of, rows_of};
+ghost use Rattle.std.specs.Prelude.{◌≡◌, codes, map, option_map, string_bytes};
+ghost use Rattle.clap.specs.Words.{found_of, rows_of};
 ghost use Rattle.ih_arguments.specs.Matches.{HasNames, IsNumberIfGiven, call_by};
 ghost use Rattle.ih_words.specs.SearchOptions.{IsAnswer};
 ghost use Rattle.ih_words.specs.Replay.{lawful_replay, replay_app, replay_call, replay_in};
 ghost use Rattle.ih_plan.specs.declared.limits.TheConstants.{MAX_FREEZE};
 
 use crate::WordsError;
-use crate::search_options::matches_in;
-use clap::{ArgMatches, Command};
-use ih_arguments::arguments::{named, with};
+use crate::search_options::{INSTANCE, JOURNAL, OUT, matches_in};
+use clap::ArgMatches;
+use ih_arguments::arguments::Description;
 use ih_arguments::file_names::names_differ;
 use ih_arguments::matches::text_of;
-use ih_arguments::start::{Start, freezes_a_file, start_in, with_start};
-use std::alloc::{AllocError, Global};
+use ih_arguments::start::{FILL, FREEZE, START, Start, freezes_a_file, start_in};
+use std::alloc::Global;
 
 /// `replay INSTANCE JOURNAL OUT` or `salvage INSTANCE JOURNAL OUT`, with its options.
 #[derive(Clone, Copy, Debug)]
@@ -26,16 +26,6 @@ pub struct Replay<'a> {
     pub out: &'a str,
     /// What the journal's search started from.
     pub start: Start<'a>,
-}
-
-// `NAME INSTANCE JOURNAL OUT` and the options of a start.
-fn replay_description<'a>(alloc: Global, name: &'a str) -> Result<Command<'a>, AllocError>
-    ensures { IfOk result (λ c. app_of c ≡ replay_app name.entry.now) }
-{
-    let instance = with(Ok(Command::new(alloc, name)), named(alloc, "INSTANCE"));
-    let journal = with(instance, named(alloc, "JOURNAL"));
-    let out = with(journal, named(alloc, "OUT"));
-    with_start(alloc, out)
 }
 
 // The values of `replay` or `salvage`.
@@ -81,7 +71,12 @@ pub(crate) fn read_replay<'a>(
     ensures { IsAnswer replay_call
         (call_by (replay_app name.entry.now) lawful_replay (map string_bytes words.entry.now)) result }
 {
-    let command = replay_description(alloc, name)?;
-    let matches = matches_in(Ok(command), words)?;
+    let description = Description {
+        name,
+        about: "",
+        called: "",
+        arguments: &[INSTANCE, JOURNAL, OUT, START, FREEZE, FILL],
+    };
+    let matches = matches_in(alloc, &description, words)?;
     lawful_replay(&matches).ok_or(WordsError::Unlawful)
 }

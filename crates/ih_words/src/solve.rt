@@ -1,21 +1,24 @@
 //! The command `solve`: its description for `clap`, its values and when they are lawful.
 ghost use Rattle.std.specs.Prelude.{◌≡◌, ◌≤◌, IfSome, IfOk, true, codes, map, option_map, string_bytes};
-ghost use Rattle.clap.specs.Words.{app_of, found_of, rows_of};
+ghost use Rattle.clap.specs.Words.{found_of, rows_of};
 ghost use Rattle.ih_arguments.specs.Matches.{HasNames, IsNumberIfGiven, call_by};
 ghost use Rattle.ih_words.specs.SearchOptions.{HasOptions, IsAnswer};
-ghost use Rattle.ih_words.specs.Solve.{is_lawful_solve, lawful_solve, search_app, solve_app, solve_call, solve_in};
+ghost use Rattle.ih_words.specs.Solve.{is_lawful_solve, lawful_solve, solve_app, solve_call, solve_in};
 ghost use Rattle.ih_journal.specs.Settings.{IsLawful, most_entries};
 ghost use Rattle.ih_plan.specs.declared.limits.TheConstants.{MAX_FREEZE};
 
 use crate::WordsError;
-use crate::search_options::{matches_in, options_in, with_options};
-use clap::{ArgMatches, Command};
-use ih_arguments::arguments::{named, optional_number, with};
+use crate::search_options::{
+    HARD, HEAT, INSTANCE, JOURNAL, MOVES, OUT, SEED, WORKERS, matches_in, options_in,
+};
+use clap::ArgMatches;
+use ih_arguments::argument;
+use ih_arguments::arguments::{Argument, Description, Kind};
 use ih_arguments::file_names::names_differ;
 use ih_arguments::matches::{optional_u32_of, text_of};
-use ih_arguments::start::{Start, freezes_a_file, start_in, with_start};
+use ih_arguments::start::{FILL, FREEZE, START, Start, freezes_a_file, start_in};
 use ih_journal::{MAX_ENTRIES, MAX_RETRIES, Options};
-use std::alloc::{AllocError, Global};
+use std::alloc::Global;
 
 /// `solve INSTANCE OUT JOURNAL` with its options.
 #[derive(Clone, Copy, Debug)]
@@ -32,27 +35,26 @@ pub struct Solve<'a> {
     pub start: Start<'a>,
 }
 
-// `NAME INSTANCE OUT JOURNAL` and the options that a search needs.
-pub(crate) fn search_description<'a>(
-    alloc: Global,
-    name: &'a str,
-) -> Result<Command<'a>, AllocError>
-    ensures { IfOk result (λ c. app_of c ≡ search_app name.entry.now) }
-{
-    let instance = with(Ok(Command::new(alloc, name)), named(alloc, "INSTANCE"));
-    let out = with(instance, named(alloc, "OUT"));
-    let journal = with(out, named(alloc, "JOURNAL"));
-    with_options(alloc, journal)
-}
-
 // `solve INSTANCE OUT JOURNAL` and the options of a search, of which only the last four may be left out.
-fn solve_description<'a>(alloc: Global) -> Result<Command<'a>, AllocError>
-    ensures { IfOk result (λ c. app_of c ≡ solve_app) }
-{
-    let search = search_description(alloc, "solve");
-    let retries = with(search, optional_number(alloc, "retries", MAX_RETRIES));
-    with_start(alloc, retries)
-}
+const SOLVE: Description<'static, 'static> = Description {
+    name: "solve",
+    about: "",
+    called: "",
+    arguments: &[
+        INSTANCE,
+        OUT,
+        JOURNAL,
+        SEED,
+        WORKERS,
+        MOVES,
+        HEAT,
+        HARD,
+        argument!("retries", Kind::OptionalNumber(0, MAX_RETRIES)),
+        START,
+        FREEZE,
+        FILL,
+    ],
+};
 
 // The values of `solve`.
 fn solve_in<'a>(matches: &ArgMatches<'a>) -> Solve<'a>
@@ -104,6 +106,6 @@ pub(crate) fn read_solve<'a>(alloc: Global, words: &'a [String]) -> Result<Solve
     ensures read { IsAnswer solve_call (call_by solve_app lawful_solve (map string_bytes words.entry.now)) result }
     ensures lawful { IfOk result (λ s. IsLawful s.options) }
 {
-    let matches = matches_in(solve_description(alloc), words)?;
+    let matches = matches_in(alloc, &SOLVE, words)?;
     lawful_solve(&matches).ok_or(WordsError::Unlawful)
 }
