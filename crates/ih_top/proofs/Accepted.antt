@@ -8,24 +8,26 @@ use Rattle.ih_journal.specs.declared.entries.Entry.{Entry}
 use Rattle.ih_tables.specs.declared.journal_refusals.JournalRefusal.{JournalRefusal}
 use Rattle.ih_journal.specs.declared.settings.Options.{Options}
 use Rattle.ih_journal.specs.Base.{Base}
-use Rattle.ih_journal.specs.Tried.{tries}
+use Rattle.ih_journal.specs.Tried.{Tried, tries}
 use Rattle.ih_journal.specs.Legal.{IsFull}
 use Rattle.ih_journal.specs.Texts.{heading, lines_from}
 use Rattle.ih_journal.proofs.HeadTexts.{heading_lacks, headings_differ, lawful_short}
 use Rattle.ih_words.specs.Replay.{ReplayCall}
 use Rattle.ih_shelf.specs.Outside.{Names}
 use Rattle.ih_answers.specs.declared.status.Status.{Status}
-use Rattle.ih_answers.specs.declared.status.Status.TheVariants.{OutOfMemory}
+use Rattle.ih_answers.specs.declared.status.Status.TheVariants.{JournalRefused, OutOfMemory}
 use Rattle.ih_inputs.specs.Reading.{HasInputs, HasPlan, two_files}
 use Rattle.ih_frame.specs.Ends.{HasNoFault}
 use Rattle.ih_frame.proofs.Complete.{accepted}
-use Rattle.ih_top.specs.Inputs.{replay_inputs}
+use Rattle.ih_top.specs.Commands.{replay_inputs}
 use Rattle.ih_answers.specs.Inputs.{EndsUnread}
 use Rattle.ih_fill.specs.Starts.{started}
-use Rattle.ih_top.specs.JournalEnds.{IsRefused}
-use Rattle.ih_top.specs.JournalFiles.{HasRead, JournalRead}
-use Rattle.ih_top.specs.JournalHeading.{IsHeadedBy, IsHeadless}
-use Rattle.ih_top.specs.Replay.{IsRefusedJournal}
+use Rattle.ih_top.specs.JournalEnds.{IsRefused, JournalEnds}
+use Rattle.ih_top.specs.JournalFiles.{HasRead, JournalRead, IsHeadedBy, IsHeadless}
+use Rattle.ih_top.specs.Laws.{EndsIn}
+use Rattle.ih_top.specs.JournalUses.{IsRefusedJournal}
+use Rattle.ih_top.specs.Texts.{journal_refused_text}
+use Rattle.ih_top.proofs.FaultlessEnds.{journal-faultless}
 use Rattle.ih_top.proofs.FirstLines.{first-apart}
 
 -- ---- files that are accepted
@@ -95,3 +97,19 @@ module _ (files : Names) (r : ReplayCall) (x : JournalRead) (has : HasRead (Some
   journal-accepted =
       accepted files (replay_inputs r) (record { instance = x.instance; plan = x.plan; older = None; journal = Some x.bytes })
       (record { inputs = has.inputs; older = refl; journal = has.journal })
+
+  -- where no history is taken from it and it can be refused in one way, it is refused so
+  module _ (left : Names) (taken : JournalRead → Base → List Entry → Type 0) (refused : JournalRead → JournalRefusal → Type 0)
+      (said : Base → List Tried → ℕ → List ℕ) (never : (y : JournalRead) (b : Base) (H : List Entry) → HasRead (Some files) r y → taken y b H → ⊥)
+      (refusal : JournalRefusal) (only : (e : JournalRefusal) → IsRefused refused r (Some files) e → e ≡ refusal) where
+    pub refused-ends : (status : Status) (text : List ℕ) → HasNoFault status → JournalEnds taken refused said r (Some files) (Some left) status text
+        → EndsIn (JournalRefused refusal) (journal_refused_text refusal) (Unit {0}) status text
+    refused-ends status text calm h = elim (journal-faultless taken refused said r (Some files) (Some left) status text calm h) [
+      | inl memory ↦ inl memory
+      | inr (inl (is, (d, told))) ↦ absurd (never d.read d.base d.history d.given d.taken_is)
+      | inr (inr (inl (is, (d, told)))) ↦ absurd (never d.read d.base d.history d.given d.taken_is)
+      | inr (inr (inr (inl so))) ↦
+          let here = only so.refusal so.why in
+          inr (so.status_is ∙ ap JournalRefused here, so.said_is ∙ ap journal_refused_text here, tt)
+      | inr (inr (inr (inr unread))) ↦ inl (journal-accepted status text calm unread)
+    ]

@@ -18,8 +18,7 @@ use Rattle.ih_frame.specs.Outcomes.{IsLeft, outcome_of}
 use Rattle.ih_frame.specs.declared.outcome.Outcome.{Outcome}
 use Rattle.ih_top.specs.Demo.{DemoEnds}
 use Rattle.ih_top.specs.Ends.{CallEnds, IsUntouched, Leaves, UsageEnds}
-use Rattle.ih_top.specs.Generate.{GenEnds, generated_outcome}
-use Rattle.ih_top.specs.Inputs.{advise_inputs, check_inputs}
+use Rattle.ih_top.specs.Commands.{GenEnds, generated_outcome, advise_inputs, check_inputs}
 use Rattle.ih_top.specs.Texts.{usage_text}
 use Rattle.ih_top.proofs.Leaving.{ends-weaker}
 

@@ -14,29 +14,24 @@ use Rattle.ih_words.specs.Replay.{ReplayCall}
 use Rattle.ih_words.specs.Words.{Call, solve, replay, salvage, check, chain, rounds, gen, demo, advise}
 use Rattle.ih_shelf.specs.Outside.{Names, Rose}
 use Rattle.ih_answers.specs.declared.status.Status.{Status}
-use Rattle.ih_answers.specs.declared.status.Status.TheVariants.{Done, ReadFault, NoneFound, WriteFault, OutOfMemory, Infeasible}
+use Rattle.ih_answers.specs.declared.status.Status.TheVariants.{Done, NoneFound, WriteFault, OutOfMemory}
 use Rattle.ih_inputs.specs.Reading.{Given, HasGiven, InputFiles}
 use Rattle.ih_frame.specs.Ends.{AreAnswers, HasNoFault}
 use Rattle.ih_frame.specs.Outcomes.{OutcomeState}
 use Rattle.ih_frame.proofs.Complete.{accepted, command-answered, no-fault, reached}
-use Rattle.ih_top.specs.Inputs.{advise_inputs, check_inputs, solve_inputs}
+use Rattle.ih_top.specs.Commands.{advise_inputs, check_inputs, solve_inputs, GenEnds, generated_outcome, IsAdvised, IsChecked, checked_status}
 use Rattle.ih_answers.specs.Inputs.{EndsUnread}
-use Rattle.ih_top.specs.Chain.{of_chains}
-use Rattle.ih_top.specs.Solve.{of_moves}
+use Rattle.ih_top.specs.Searches.{of_chains, of_moves}
+use Rattle.ih_top.specs.Rounds.{of_rounds}
 use Rattle.ih_top.specs.Texts.{done_text, salvaged_text}
-use Rattle.ih_top.specs.Generate.{GenEnds, generated_outcome}
 use Rattle.ih_top.specs.JournalEnds.{IsRefused, JournalEnds}
-use Rattle.ih_top.specs.JournalFiles.{HasRead, JournalRead}
-use Rattle.ih_top.specs.JournalHeading.{IsHeadless}
-use Rattle.ih_top.specs.Replay.{IsRefusedJournal, IsReplay}
-use Rattle.ih_top.specs.Salvage.{IsSalvage}
+use Rattle.ih_top.specs.JournalFiles.{HasRead, JournalRead, IsHeadless}
+use Rattle.ih_top.specs.JournalUses.{IsRefusedJournal, IsReplay, IsSalvage}
 use Rattle.ih_top.specs.Ends.{CallEnds, Leaves, HasFiles, IsAnswered, IsComplete}
 use Rattle.ih_answers.specs.Ends.{HasCause}
-use Rattle.ih_top.specs.Advise.{IsAdvised}
-use Rattle.ih_top.specs.Check.{IsChecked, checked_status}
 use Rattle.ih_top.specs.Demo.{DemoEnds}
 use Rattle.ih_top.proofs.Accepted.{journal-accepted, not-headless, not-refused}
-use Rattle.ih_top.proofs.FaultlessEnds.{IsFaultless, journal-faultless, rounds-faultless, search-faultless}
+use Rattle.ih_top.proofs.FaultlessEnds.{IsFaultless, journal-faultless, search-faultless}
 use Rattle.ih_top.proofs.Leaving.{left-by}
 
 -- ---- the commands
@@ -98,9 +93,9 @@ answered : (call : Call) (files : Names) (new : Option Names) → HasFiles call 
 answered (solve s) files new (g, has) status text calm h =
     searched files (solve_inputs s) g has status text calm (search-faultless of_moves s (Some files) new status text calm h)
 answered (chain c) files new (g, has) status text calm h =
-    searched files (solve_inputs c.search) g has status text calm (search-faultless (of_chains c.length) c.search (Some files) new status text calm h)
+    searched files (solve_inputs c.search) g has status text calm (search-faultless (of_chains c.number) c.search (Some files) new status text calm h)
 answered (rounds r) files new (g, has) status text calm h =
-    searched files (solve_inputs r.search) g has status text calm (rounds-faultless r (Some files) new status text calm h)
+    searched files (solve_inputs r.search) g has status text calm (search-faultless (of_rounds r.number) r.search (Some files) new status text calm h)
 answered (replay r) files new (x, b, H, has, headed, full) status text calm h =
     replayed files (IsReplay r.start) (IsRefusedJournal r.start) done_text r new x has (not-refused files r x has b H headed full) status text calm h
 answered (salvage r) files new (x, b, lines, has, headed) status text calm h =

@@ -6,18 +6,16 @@ use Rattle.ih_tables.specs.declared.journal_refusals.JournalRefusal.{JournalRefu
 use Rattle.ih_journal.specs.Base.{Base}
 use Rattle.ih_journal.specs.Tried.{Tried, tries}
 use Rattle.ih_words.specs.Replay.{ReplayCall}
-use Rattle.ih_words.specs.Rounds.{RoundsCall}
 use Rattle.ih_words.specs.Solve.{SolveCall}
 use Rattle.ih_shelf.specs.Outside.{IsWritten, Names, IfTold}
 use Rattle.ih_answers.specs.declared.status.Status.{Status}
 use Rattle.ih_answers.specs.declared.status.Status.TheVariants.{Done, ReadFault, NoneFound, WriteFault, OutOfMemory, JournalRefused}
-use Rattle.ih_top.specs.Inputs.{replay_inputs, solve_inputs}
+use Rattle.ih_top.specs.Commands.{replay_inputs, solve_inputs}
 use Rattle.ih_answers.specs.Inputs.{EndsUnread}
 use Rattle.ih_top.specs.JournalEnds.{HasBest, HasNoBest, IsRefused, JournalEnds}
 use Rattle.ih_top.specs.JournalFiles.{JournalRead}
 use Rattle.ih_frame.specs.Ends.{HasNoFault}
-use Rattle.ih_top.specs.Rounds.{AreDone, HaveFoundNone, RoundsEnds}
-use Rattle.ih_top.specs.Searches.{HasFoundNone, IsDone, JournalForm, SearchEnds, WritingEnds}
+use Rattle.ih_top.specs.Searches.{HasFoundNone, IsDone, SearchEnds, SearchForm}
 use Rattle.ih_top.specs.Texts.{journal_refused_text}
 use Rattle.ih_answers.specs.Texts.{none_found_text}
 use Rattle.ih_answers.specs.Ends.{Unchanged}
@@ -28,25 +26,15 @@ IsFaultless done none other status = (status ≡ OutOfMemory) ⊎ ((status ≡ D
 
 -- ---- searches
 
-module _ (begun none found : Type 0) (done : List ℕ → Type 0) (s : SolveCall) (old new : Option Names) where
-  writing-faultless : (status : Status) (text : List ℕ) → HasNoFault status → WritingEnds begun none found done s old new status text
-      → IsFaultless (done text) (none × (text ≡ none_found_text)) (IfTold Unchanged old new × EndsUnread old (solve_inputs s) status text) status
-  writing-faultless Done text calm h = inr (inl (refl, h))
-  writing-faultless (ReadFault role) text calm h = absurd calm
-  writing-faultless NoneFound text calm h = inr (inr (inl (refl, h)))
-  writing-faultless (WriteFault role) text calm h = absurd calm
-  writing-faultless OutOfMemory text calm h = inl refl
-  writing-faultless status text calm h = inr (inr (inr h))
-
-pub search-faultless : {X : Type 0} (form : JournalForm X) (s : SolveCall) (old new : Option Names) (status : Status) (text : List ℕ) → HasNoFault status
+pub search-faultless : {X K : Type 0} (form : SearchForm X K) (s : SolveCall) (old new : Option Names) (status : Status) (text : List ℕ) → HasNoFault status
     → SearchEnds form s old new status text → IsFaultless (IsDone form s old new text) (HasFoundNone form s old new × (text ≡ none_found_text))
     (IfTold Unchanged old new × EndsUnread old (solve_inputs s) status text) status
-search-faultless form s old new = writing-faultless _ _ _ (λ text. IsDone form s old new text) s old new
-
-pub rounds-faultless : (r : RoundsCall) (old new : Option Names) (status : Status) (text : List ℕ) → HasNoFault status
-    → RoundsEnds r old new status text → IsFaultless (AreDone r old new text) (HaveFoundNone r old new × (text ≡ none_found_text))
-    (IfTold Unchanged old new × EndsUnread old (solve_inputs r.search) status text) status
-rounds-faultless r old new = writing-faultless _ _ _ (λ text. AreDone r old new text) r.search old new
+search-faultless form s old new Done text calm h = inr (inl (refl, h))
+search-faultless form s old new (ReadFault role) text calm h = absurd calm
+search-faultless form s old new NoneFound text calm h = inr (inr (inl (refl, h)))
+search-faultless form s old new (WriteFault role) text calm h = absurd calm
+search-faultless form s old new OutOfMemory text calm h = inl refl
+search-faultless form s old new status text calm h = inr (inr (inr h))
 
 -- ---- replay and salvage
 

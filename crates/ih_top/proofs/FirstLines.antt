@@ -12,7 +12,7 @@ use Rattle.ih_journal.specs.Texts.{ended, heading}
 use Rattle.ih_journal.proofs.HeadTexts.{heading_lacks, lawful_short}
 use Rattle.ih_journal.proofs.Separators.{at_none, at_some}
 use Rattle.ih_top.specs.JournalLines.{HasLine, HasNoLineFeed}
-use Rattle.ih_top.specs.JournalHeading.{HasNoHeading}
+use Rattle.ih_top.specs.JournalFiles.{HasNoHeading}
 
 abbrev pub is_feed : ℕ → Bool
 is_feed b = b == 10

@@ -1,7 +1,6 @@
 -- What is taken of the journal of a legal history that is cut off or damaged.
-use Rattle.std.proofs.Common.{zero, suc, ◌≡◌, ◌∙◌, ℕ, ◌+◌, ◌<◌, refl, sym, ap, ap₂, subst, arith, inl}
-use Rattle.std.proofs.Common.{inr, Bool, true, false, Option, Some, None, List, [], ◌∷◌, ◌++◌, append_assoc, length, take, drop}
-use Rattle.std.specs.Prelude.{◌==◌, position, slice_get}
+use Rattle.std.proofs.Common.{zero, suc, ◌≡◌, ◌∙◌, ℕ, ◌+◌, ◌<◌, refl, sym, ap, ap₂, subst, arith, inl, inr, Bool, true, false, Option, Some, None, List, [], ◌∷◌, ◌++◌, append_assoc, length, take, drop}
+use Rattle.std.specs.Prelude.{◌==◌, ◌⊎◌, position, slice_get}
 use Rattle.std.specs.List.{count_by, onto_first}
 use Rattle.std.proofs.lemmas.List.{append-nil, append_cancel_left, length-append, take-append-drop, take_all}
 use Rattle.std.proofs.lemmas.List.Elements.{All-cons, All-nil}
@@ -15,12 +14,13 @@ use Rattle.ih_journal.specs.Tried.{tried, tries}
 use Rattle.ih_journal.specs.Grammar.{parted}
 use Rattle.ih_journal.specs.Legal.{AreLegal, IsFull, IsLegal}
 use Rattle.ih_journal.specs.Texts.{ended, line_text, lines_from}
-use Rattle.ih_journal.proofs.Growth.{legal-more}
+use Rattle.ih_journal.proofs.Growth.{attempt-parts, legal-more}
 use Rattle.ih_journal.proofs.Lacking.{parted_same}
 use Rattle.ih_journal.proofs.Mapped.{get-mapped, map-more, map-take}
 use Rattle.ih_journal.proofs.Separators.{parted_some}
 use Rattle.ih_cellbook.specs.Keeping.{IsBase}
 use Rattle.ih_replay.specs.Laws.{LegalJournalsAreTaken, LegalJournalsDiffer, TakenLinesAreOfLegalHistories, Takes, line_texts}
+use Rattle.ih_replay.specs.Refusals.{IsNextLine}
 use Rattle.ih_top.specs.JournalLines.{Begins, HasLine, HasNoLineFeed, IsRefusedAt}
 use Rattle.ih_top.specs.Laws.{RefusedLinesAreNotFull, WholeLinesAreSalvaged}
 use Rattle.ih_top.proofs.FirstLines.{ended-some, first-apart, is_feed, line_here, no_line}
@@ -55,6 +55,20 @@ split-last : (xs : List (List ℕ)) → 0 < length xs → (ys : List (List ℕ))
 split-last [] some = absurd (omega (arith, some))
 split-last (x ∷ []) some = ([], x, refl)
 split-last (x ∷ y ∷ ys) some = let rest = split-last (y ∷ ys) (omega arith) in (x ∷ rest.0, rest.1, ap (λ t. x ∷ t) rest.2)
+
+-- of two joins of one list the first part of one begins that of the other
+joins-apart : {A : Type 0} (xs ys zs ws : List A) → xs ++ ys ≡ zs ++ ws
+    → ((r : List A) × (zs ≡ xs ++ r) × (ys ≡ r ++ ws)) ⊎ ((r : List A) × (xs ≡ zs ++ r) × (ws ≡ r ++ ys))
+joins-apart [] ys zs ws h = inl (zs, refl, h)
+joins-apart (x ∷ xs) ys [] ws h = inr (x ∷ xs, refl, sym h)
+joins-apart (x ∷ xs) ys (z ∷ zs) ws h =
+    let same : x ∷ (xs ++ ys) ≡ z ∷ (zs ++ ws) = h in
+    let first : x ≡ z = cc in
+    let rest : xs ++ ys ≡ zs ++ ws = cc in
+    elim (joins-apart xs ys zs ws rest) [
+      | inl p ↦ inl (p.0, ap₂ (λ a t. a ∷ t) (sym first) p.1, p.2)
+      | inr p ↦ inr (p.0, ap₂ (λ a t. a ∷ t) first p.1, p.2)
+    ]
 
 -- ---- the lines of histories
 
@@ -138,11 +152,11 @@ module _ (taken : LegalJournalsAreTaken) (differ : LegalJournalsDiffer) (texts :
         ∙ ap (λ n. lines_from o n (drop (length H) G)) place
 
     module _ (e : Entry) (es : List Entry) (some : drop (length H) G ≡ e ∷ es) where
-      pub next-legal : IsLegal b 1 (tries H) (tried e)
+      next-legal : IsLegal b 1 (tries H) (tried e)
       next-legal = subst (λ K. IsLegal b 1 K (tried e)) (sym (map-take tried (length H) G) ∙ ap (λ es. tries es) (sym prefix))
           (legal_G (length H) (tried e) (get-mapped tried G (length H) e (get-drop G (length H) e es some)))
 
-      pub next-lacks : HasNoLineFeed (line_text b.options (length H) e)
+      next-lacks : HasNoLineFeed (line_text b.options (length H) e)
       next-lacks =
           let o = b.options in
           let each = subst EachLacks (texts-append o 0 H (e ∷ [])) (each-text (H ++ e ∷ [])
@@ -151,15 +165,21 @@ module _ (taken : LegalJournalsAreTaken) (differ : LegalJournalsDiffer) (texts :
           let place : 0 + length H ≡ length H = omega arith in
           subst (λ n. HasNoLineFeed (line_text o n e)) place (first-lacks o (0 + length H) e last)
 
-      pub next-joins : rest ≡ ended (line_text b.options (length H) e) ++ lines_from b.options (length H + 1) es
+      next-joins : rest ≡ ended (line_text b.options (length H) e) ++ lines_from b.options (length H + 1) es
       unfolding lines_from
       next-joins = rest-is ∙ ap (lines_from b.options (length H)) some
+
+      pub next-line : HasLine rest (line_text b.options (length H) e) (lines_from b.options (length H + 1) es)
+      next-line = record { joins = next-joins; first = next-lacks }
+
+      pub next-is : IsNextLine b H (line_text b.options (length H) e) e
+      next-is = record { legal = next-legal; text = refl }
 
     last-joins : drop (length H) G ≡ [] → rest ≡ []
     unfolding lines_from
     last-joins none = rest-is ∙ ap (lines_from b.options (length H)) none
 
-    pub whole : drop (length H) G ≡ [] → G ≡ H
+    whole : drop (length H) G ≡ [] → G ≡ H
     whole none = sym (take-append-drop (length H) G) ∙ (ap (λ es. take (length H) G ++ es) none ∙ (append-nil (take (length H) G) ∙ sym prefix))
 
   refused-not-full : (bytes : List ℕ) (H : List Entry) (e : JournalRefusal) → IsRefusedAt b bytes H e → (G : List Entry) → IsFull b 1 (tries G)
@@ -178,26 +198,43 @@ module _ (taken : LegalJournalsAreTaken) (differ : LegalJournalsDiffer) (texts :
             | inr (inl unended) ↦ unended.0 nothing
             | inr (inr early) ↦ let clash : true ≡ false = sym (done.done early.2.0 early.2.1.0) ∙ early.2.1.1 in cc
           ]
-      go (d ∷ es) some =
-          refused.begins.longest (line_text b.options (length H) d) (lines_from b.options (length H + 1) es) d
-          (record {
-            joins = next-joins G H refused.rest full.legal refused.begins.legal joins d es some;
-            first = next-lacks G H refused.rest full.legal refused.begins.legal joins d es some;
-          })
-          (record { legal = next-legal G H refused.rest full.legal refused.begins.legal joins d es some; text = refl })
+      go (d ∷ es) some = refused.begins.longest (line_text b.options (length H) d) (lines_from b.options (length H + 1) es) d
+          (next-line G H refused.rest full.legal refused.begins.legal joins d es some) (next-is G H refused.rest full.legal refused.begins.legal joins d es some)
 
-  -- of the whole journal of a legal history each line is taken
-  pub all-salvaged : (G H : List Entry) (rest : List ℕ) → AreLegal b 1 (tries G) → Begins b (lines_from b.options 0 G) H rest → H ≡ G
-  all-salvaged G H rest legal begins = go (drop (length H) G) refl
-    where
-      joins : lines_from b.options 0 H ++ rest ≡ lines_from b.options 0 G
-      joins = sym begins.joins
+  module _ (G : List Entry) (full : IsFull b 1 (tries G)) where
+    -- nothing comes after a full history
+    none-next : (e : Entry) → IsLegal b 1 (tries G) (tried e) → ⊥
+    none-next e legal =
+        let going = attempt-parts b.options (tries G) e.worker _ legal.entry.attempt in
+        let clash : true ≡ false = sym (full.done e.worker legal.entry.worker) ∙ going.0 in cc
 
-      go : (D : List Entry) → drop (length H) G ≡ D → H ≡ G
-      go [] none = sym (whole G H rest legal begins.legal joins none)
-      go (d ∷ es) some = absurd (begins.longest (line_text b.options (length H) d) (lines_from b.options (length H + 1) es) d
-          (record { joins = next-joins G H rest legal begins.legal joins d es some; first = next-lacks G H rest legal begins.legal joins d es some })
-          (record { legal = next-legal G H rest legal begins.legal joins d es some; text = refl }))
+    -- a legal history whose lines begin with its own is it
+    pub no-longer : (H : List Entry) (r : List ℕ) → AreLegal b 1 (tries H) → lines_from b.options 0 G ++ r ≡ lines_from b.options 0 H → H ≡ G
+    no-longer H r legal joins = go (drop (length G) H) refl
+      where
+        go : (D : List Entry) → drop (length G) H ≡ D → H ≡ G
+        go [] none = whole H G r legal full.legal joins none
+        go (d ∷ es) some = absurd (none-next d (next-legal H G r legal full.legal joins d es some))
+
+    -- whatever is behind its lines, it is the longest legal history whose lines the bytes begin with
+    pub longest-is : (extra : List ℕ) (H : List Entry) (rest : List ℕ) → Begins b (lines_from b.options 0 G ++ extra) H rest → H ≡ G
+    longest-is extra H rest begins = elim (joins-apart (lines_from b.options 0 H) rest (lines_from b.options 0 G) extra (sym begins.joins)) [
+      | inl p ↦ go p.0 (sym p.1) p.2 (drop (length H) G) refl
+      | inr p ↦ no-longer H p.0 begins.legal (sym p.1)
+    ]
+      where
+        go : (r : List ℕ) → lines_from b.options 0 H ++ r ≡ lines_from b.options 0 G → rest ≡ r ++ extra → (D : List Entry) → drop (length H) G ≡ D → H ≡ G
+        go r joins is [] none = sym (whole G H r full.legal begins.legal joins none)
+        go r joins is (d ∷ es) some =
+            let line = next-line G H r full.legal begins.legal joins d es some in
+            absurd (begins.longest (line_text b.options (length H) d) (lines_from b.options (length H + 1) es ++ extra) d
+            (record {
+              joins = is
+                  ∙ (ap (λ t. t ++ extra) line.joins
+                  ∙ append_assoc (ended (line_text b.options (length H) d)) (lines_from b.options (length H + 1) es) extra);
+              first = line.first;
+            })
+            (next-is G H r full.legal begins.legal joins d es some))
 
   salvaged-whole : (G : List Entry) (bytes more : List ℕ) (H : List Entry) (rest : List ℕ) → AreLegal b 1 (tries G) → bytes ++ more ≡ lines_from b.options 0 G
       → Begins b bytes H rest → length H ≡ count_by is_feed bytes
@@ -219,9 +256,9 @@ module _ (taken : LegalJournalsAreTaken) (differ : LegalJournalsDiffer) (texts :
           ended-some line (left ++ more) (sym nothing ∙ (ap (λ t. t ++ more) has.joins ∙ append_assoc (ended line) left more))
       never line left has (d ∷ es) some =
           let first = first-apart line (line_text b.options (length H) d) (left ++ more) (lines_from b.options (length H + 1) es)
-          has.first (next-lacks G H (rest ++ more) legal begins.legal joins d es some)
+          has.first (next-line G H (rest ++ more) legal begins.legal joins d es some).first
           (sym (append_assoc (ended line) left more) ∙ (ap (λ t. t ++ more) (sym has.joins)
-          ∙ next-joins G H (rest ++ more) legal begins.legal joins d es some)) in
+          ∙ (next-line G H (rest ++ more) legal begins.legal joins d es some).joins)) in
           begins.longest line left d has (record { legal = next-legal G H (rest ++ more) legal begins.legal joins d es some; text = first.0 })
 
       lacks : (o : Option ℕ) → position is_feed rest ≡ o → HasNoLineFeed rest

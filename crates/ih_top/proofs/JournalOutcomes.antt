@@ -1,16 +1,14 @@
 -- What a journal comes to, and how the call ends then.
-use Rattle.std.proofs.Common.{◌≡◌, ℕ, refl, sym, subst, inl, inr, List, [], ◌∷◌, Option, Some, None}
+use Rattle.std.proofs.Common.{ℕ, refl, sym, subst, inl, inr, List, [], ◌∷◌, Option, Some, None}
 use Rattle.std.specs.Prelude.{Result, Ok, Err, IfOk, IfSome, unwrap_or}
 use Rattle.ih_journal.specs.declared.entries.Entry.{Entry}
 use Rattle.ih_tables.specs.declared.journal_refusals.JournalRefusal.{JournalRefusal}
 use Rattle.ih_journal.specs.Base.{Base}
 use Rattle.ih_journal.specs.Tried.{Tried, tries}
-use Rattle.ih_cellbook.specs.Keeping.{IsBase}
 use Rattle.ih_words.specs.Replay.{ReplayCall}
 use Rattle.ih_arguments.specs.Start.{StartCall}
 use Rattle.ih_shelf.specs.Outside.{IsWritten, MayBeWritten, Names, IfTold}
 use Rattle.ih_inputs.specs.Reading.{Given, HasBytes, HasGiven, HasJournal}
-use Rattle.ih_top.specs.declared.journal_heading.Headed.{Headed}
 use Rattle.ih_top.specs.declared.output.BestOutput.{BestOutput}
 use Rattle.ih_top.specs.declared.outcome.JournalOutcome.{JournalOutcome}
 use Rattle.ih_top.specs.declared.outcome.JournalOutcome.TheVariants.{Refused, Taken}
@@ -19,21 +17,17 @@ use Rattle.ih_answers.specs.declared.status.Status.TheVariants.{Done, NoneFound,
 use Rattle.ih_answers.specs.declared.status.Role.TheVariants.{Out}
 use Rattle.ih_frame.specs.Ends.{CommandEnds}
 use Rattle.ih_frame.specs.Outcomes.{AreBegun, AreWritten, IsLeft, IsOneOf, StopsAt, WritingState, writes_one}
-use Rattle.ih_top.specs.Outcomes.{AreLines, IsLinesOutcome, IsOutcome, IsTaken, journal_outcome}
-use Rattle.ih_top.specs.Outputs.{IsBestSaid}
-use Rattle.ih_top.specs.JournalEnds.{HasBest, HasNoBest, IsRefused, JournalEnds}
-use Rattle.ih_top.specs.Inputs.{replay_inputs}
+use Rattle.ih_top.specs.Outputs.{IsOutcome, IsTaken, journal_outcome, IsBestSaid}
+use Rattle.ih_top.specs.JournalEnds.{HasBest, JournalEnds}
+use Rattle.ih_top.specs.Commands.{replay_inputs}
 use Rattle.ih_answers.specs.Inputs.{EndsUnread}
-use Rattle.ih_top.specs.JournalFiles.{HasRead, JournalRead, read_of}
-use Rattle.ih_top.specs.JournalHeading.{IsBegun, IsHeadedBy, IsHeadless, base_headed}
-use Rattle.ih_top.specs.Replay.{IsRefusedJournal, IsReplay}
-use Rattle.ih_top.specs.Salvage.{IsSalvage}
+use Rattle.ih_top.specs.JournalFiles.{HasRead, JournalRead, read_of, IsHeadedBy, IsHeadless}
 use Rattle.ih_top.specs.declared.journals.JournalUse.{JournalUse}
 use Rattle.ih_top.specs.declared.journals.JournalUse.TheVariants.{Replay, Salvage}
 use Rattle.ih_top.specs.JournalUses.{IsJournalUse, IsLinesFor, IsOutcomeFor, JournalUseEnds, refused_for, said_for, taken_for}
 use Rattle.ih_answers.specs.Ends.{Ends, Unchanged}
 use Rattle.ih_answers.specs.Texts.{none_found_text, unwritten_text}
-use Rattle.ih_top.specs.Texts.{done_text, journal_refused_text, salvaged_text}
+use Rattle.ih_top.specs.Texts.{journal_refused_text}
 use Rattle.ih_answers.proofs.Files.{told-weaker}
 use Rattle.ih_answers.proofs.Stopping.{unread-lack, unread-only}
 use Rattle.ih_top.proofs.Leaving.{ends-weaker, left-by, one-begun, one-stopped, one-written, said-by}
@@ -129,46 +123,12 @@ pub journal-ended : (journal_use : JournalUse) (r : ReplayCall) (old new : Optio
 journal-ended journal_use r old new cause received part =
     ends-weaker (CommandEnds (IsJournalUse journal_use r) (replay_inputs r) old new) (JournalUseEnds journal_use r old new) cause received part (journal-ends journal_use r old new)
 
--- ---- a journal whose heading was read
-
-module _ (s : StartCall) (x : JournalRead) (o : Option Headed) (h : Headed) (is : o ≡ Some h) (begun : IfSome o (IsBegun s x)) where
-  headed-begun : IsBegun s x h
-  headed-begun = subst (λ (o : Option Headed). IfSome o (IsBegun s x)) is begun
-
-  pub headed-by : IsHeadedBy s x (base_headed s.freeze h) h.lines.now
-  headed-by = headed-begun.headed
-
-  pub headed-base : (b : Base) → b ≡ base_headed s.freeze h → IsBase b
-  headed-base b same = subst IsBase (sym same) (record { start = headed-begun.plan; lawful = headed-by.lawful })
-
--- ---- what the lines come to is what the journal comes to
-
-module _ (s : StartCall) (x : JournalRead) (b : Base) (lines : List ℕ) (headed : IsHeadedBy s x b lines) where
-  replay-outcome : (o : JournalOutcome) → IsLinesOutcome b lines o → IsOutcome (IsReplay s x) (IsRefusedJournal s x) done_text o
-  replay-outcome (Refused e) t = inr (record { base = b; history = t.history; bytes = lines; headed = headed; refused = t.refused; none = t.none })
-  replay-outcome (Taken best) t = record {
-    base = b;
-    history = t.history;
-    taken_is = record { headed = subst (IsHeadedBy s x b) t.whole headed; full = t.full; sound = t.sound };
-    output = t.output;
-  }
-
-  salvage-outcome : (best : Option BestOutput) → AreLines b lines best → IsOutcome (IsSalvage s x) (IsHeadless x) salvaged_text (Taken best)
-  salvage-outcome best t = record {
-    base = b;
-    history = t.history;
-    taken_is = record { bytes = lines; rest = t.rest; headed = headed; begins = t.begins; sound = t.sound };
-    output = t.output;
-  }
-
-  outcome-for : (journal_use : JournalUse) (o : JournalOutcome) → IsLinesFor journal_use b lines o → IsOutcomeFor journal_use s x o
-  outcome-for Replay o t = replay-outcome o t
-  outcome-for Salvage (Taken best) t = salvage-outcome best t
-  outcome-for Salvage (Refused e) t = absurd t
-
-  pub result-for : {E : Type 0} (journal_use : JournalUse) (r : Result JournalOutcome E) → IfOk r (IsLinesFor journal_use b lines) → IfOk r (IsOutcomeFor journal_use s x)
-  result-for journal_use (Ok o) t = outcome-for journal_use o t
-  result-for journal_use (Err e) t = t
+-- what the lines come to is what the journal comes to
+pub result-for : {E : Type 0} (s : StartCall) (x : JournalRead) (b : Base) (lines : List ℕ) → IsHeadedBy s x b lines → (journal_use : JournalUse)
+    (r : Result JournalOutcome E) → IfOk r (IsLinesFor journal_use b lines) → IfOk r (IsOutcomeFor journal_use s x)
+unfolding IsLinesFor
+result-for s x b lines headed journal_use (Ok o) t = t s x headed
+result-for s x b lines headed journal_use (Err e) t = t
 
 -- a journal without a heading is refused, whatever it is read for
 pub headless-for : (journal_use : JournalUse) (s : StartCall) (x : JournalRead) (e : JournalRefusal) → IsHeadless x e → refused_for journal_use s x e

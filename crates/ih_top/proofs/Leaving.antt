@@ -1,6 +1,5 @@
 -- What is left of an outcome, by its cases, and what that means where it writes one file at most.
-use Rattle.std.proofs.Common.{◌≡◌, ◌∙◌, ℕ, refl, sym, subst, inl, inr, List, [], ◌∷◌, Option, Some, None}
-use Rattle.std.specs.Prelude.{◌⊎◌}
+use Rattle.std.proofs.Common.{◌∙◌, ℕ, sym, subst, inl, inr, List, [], ◌∷◌, Option, Some}
 use Rattle.ih_shelf.specs.Outside.{IfTold, IsWritten, MayBeWritten, Names}
 use Rattle.ih_answers.specs.declared.status.Status.{Status}
 use Rattle.ih_answers.specs.declared.status.Status.TheVariants.{OutOfMemory, WriteFault}

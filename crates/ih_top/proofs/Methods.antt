@@ -1,9 +1,8 @@
 -- How a call that searches ends, by its method.
-use Rattle.std.proofs.Common.{◌≡◌, ℕ, refl, subst, inl, inr, List, Option}
+use Rattle.std.proofs.Common.{ℕ, refl, subst, inl, inr, List, Option}
 use Rattle.std.specs.Prelude.{◌≢◌}
 use Rattle.ih_journal.specs.Base.{Base}
 use Rattle.ih_words.specs.Solve.{SolveCall}
-use Rattle.ih_words.specs.Rounds.{RoundsCall}
 use Rattle.ih_shelf.specs.Outside.{Names, IfTold}
 use Rattle.ih_top.specs.declared.output.Output.{Output}
 use Rattle.ih_top.specs.declared.searching.Method.{Method}
@@ -11,43 +10,29 @@ use Rattle.ih_top.specs.declared.searching.Method.TheVariants.{Moves, Chains, Ro
 use Rattle.ih_answers.specs.declared.status.Status.{Status}
 use Rattle.ih_frame.specs.Ends.{CommandEnds}
 use Rattle.ih_frame.specs.Outcomes.{IsLeft}
-use Rattle.ih_top.specs.Chain.{of_chains}
-use Rattle.ih_top.specs.Inputs.{solve_inputs}
+use Rattle.ih_top.specs.Searches.{of_chains, HasBase, of_moves}
+use Rattle.ih_top.specs.Commands.{solve_inputs}
 use Rattle.ih_answers.specs.Inputs.{EndsUnread}
 use Rattle.ih_top.specs.Methods.{IsMade, IsSearched, MethodEnds}
 use Rattle.ih_top.specs.Outputs.{base_from, search_outcome}
-use Rattle.ih_top.specs.Rounds.{AreDone, HaveBegun, HaveFound, HaveFoundNone, RoundsEnds}
-use Rattle.ih_top.specs.Searches.{HasBase, HasBegun, HasFound, HasFoundNone, IsDone, JournalForm, SearchEnds}
-use Rattle.ih_top.specs.Solve.{of_moves}
+use Rattle.ih_top.specs.Rounds.{of_rounds}
 use Rattle.ih_answers.specs.Ends.{Ends, Unchanged}
 use Rattle.ih_top.proofs.Leaving.{ends-weaker}
-use Rattle.ih_top.proofs.RoundsWriting.{rounds-left}
-use Rattle.ih_top.proofs.Writing.{search-left, unread-writing}
+use Rattle.ih_top.proofs.Writing.{search-left, unread-search}
 
 -- what is left of what was made
 made-left : (method : Method) (s : SolveCall) (o : Output) (old new : Option Names) (b : Base) → HasBase old s b → IsMade method b o → s.out ≢ s.journal
     → (status : Status) (text : List ℕ) → IsLeft (search_outcome s o.journal.items o.best) old new status text → MethodEnds method s old new status text
-made-left Moves s o old new b given is differ = search-left of_moves s o old new b given is differ o.best is.best
-made-left (Chains each) s o old new b given is differ = search-left (of_chains each) s o old new b given is differ o.best is.best
-made-left (Rounds count) s o old new b given is differ =
-    rounds-left (record { search = s; rounds = count }) o old new b given is differ o.best is.best
+made-left Moves s o old new b given is differ = search-left of_moves s old new differ o b given is o.best is.best
+made-left (Chains each) s o old new b given is differ = search-left (of_chains each) s old new differ o b given is o.best is.best
+made-left (Rounds count) s o old new b given is differ = search-left (of_rounds count) s old new differ o b given is o.best is.best
 
--- ---- a call that comes no further than its files
-
-unread-search : {X : Type 0} (form : JournalForm X) (s : SolveCall) (old new : Option Names) → IfTold Unchanged old new → (status : Status) (text : List ℕ)
-    → EndsUnread old (solve_inputs s) status text → SearchEnds form s old new status text
-unread-search form s old new =
-    unread-writing (HasBegun form s old new) (HasFoundNone form s old new) (HasFound form s old new) (λ text. IsDone form s old new text) s old new
-
+-- a call that comes no further than its files
 unread-by : (method : Method) (s : SolveCall) (old new : Option Names) → IfTold Unchanged old new → (status : Status) (text : List ℕ)
     → EndsUnread old (solve_inputs s) status text → MethodEnds method s old new status text
 unread-by Moves s = unread-search of_moves s
 unread-by (Chains each) s = unread-search (of_chains each) s
-unread-by (Rounds count) s = λ old new.
-    let r : RoundsCall = record { search = s; rounds = count } in
-    unread-writing (HaveBegun r old new) (HaveFoundNone r old new) (HaveFound r old new) (λ text. AreDone r old new text) s old new
-
--- ---- any call
+unread-by (Rounds count) s = unread-search (of_rounds count) s
 
 searched-ends : (method : Method) (s : SolveCall) → s.out ≢ s.journal → (old new : Option Names) (status : Status) (text : List ℕ)
     → CommandEnds (IsSearched method s) (solve_inputs s) old new status text → MethodEnds method s old new status text

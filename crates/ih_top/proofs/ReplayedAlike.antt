@@ -1,6 +1,6 @@
 -- What solve writes, replay and salvage take.
 use Rattle.std.proofs.Common.{◌≡◌, ◌∙◌, ℕ, ◌≤◌, refl, sym, ap, ap₂, subst, arith, inl, inr, List, [], ◌++◌, length, Option, Some, None}
-use Rattle.std.proofs.lemmas.List.{length-map}
+use Rattle.std.proofs.lemmas.List.{append-nil, length-map}
 use Rattle.std.specs.Prelude.{Bool, unwrap_or}
 use Rattle.ih_tables.specs.Valid.{IsValid}
 use Rattle.ih_journal.specs.declared.entries.Entry.{Entry}
@@ -11,6 +11,7 @@ use Rattle.ih_journal.specs.Best.{HasNone, IsBest}
 use Rattle.ih_journal.specs.Legal.{IsFull}
 use Rattle.ih_journal.specs.Texts.{journal, lines_from}
 use Rattle.ih_journal.proofs.BestLemmas.{best-one, best-or-none}
+use Rattle.ih_cellbook.specs.Keeping.{IsBase}
 use Rattle.ih_cellbook.specs.Laws.{LegalJournalsAreShort}
 use Rattle.ih_cellbook.specs.Legal.{AreLegalButDraws}
 use Rattle.ih_cellbook.proofs.EntryLimits.{legal-few}
@@ -29,18 +30,15 @@ use Rattle.ih_top.specs.JournalLines.{Begins}
 use Rattle.ih_frame.specs.Ends.{HasNoFault}
 use Rattle.ih_top.specs.Laws.{ComesTo, EndsIn, HaveSameBytes, IsReplayOf, JournalsFit, SolvesReplayTheSame, SolvesWithNoneReplayTheSame}
 use Rattle.ih_top.specs.JournalEnds.{IsRefused, JournalEnds}
-use Rattle.ih_top.specs.JournalFiles.{HasRead, JournalRead}
-use Rattle.ih_top.specs.JournalHeading.{IsHeadedBy, IsHeadless}
-use Rattle.ih_top.specs.Replay.{IsRefusedJournal, IsReplay}
-use Rattle.ih_top.specs.Salvage.{IsSalvage}
-use Rattle.ih_top.specs.Searches.{HasBase, IsSearch, solution_at}
-use Rattle.ih_top.specs.Solve.{of_moves}
+use Rattle.ih_top.specs.JournalFiles.{HasRead, JournalRead, IsHeadedBy, IsHeadless}
+use Rattle.ih_top.specs.JournalUses.{IsRefusedJournal, IsReplay, ReplayEnds, IsSalvage, SalvageEnds}
+use Rattle.ih_top.specs.Searches.{HasBase, IsSearch, solution_at, of_moves}
 use Rattle.ih_fill.specs.Starts.{started}
 use Rattle.ih_top.specs.Texts.{done_text, salvaged_line, salvaged_text}
 use Rattle.ih_answers.specs.Texts.{none_found_text}
 use Rattle.ih_top.proofs.Accepted.{journal-accepted, not-headless, not-refused, same-search}
 use Rattle.ih_top.proofs.FaultlessEnds.{journal-faultless}
-use Rattle.ih_top.proofs.JournalLaws.{all-salvaged}
+use Rattle.ih_top.proofs.JournalLaws.{longest-is}
 
 -- ---- ends without a fault
 
@@ -55,10 +53,10 @@ search-valid files s b H search = instance_sound (bytes_at files s.instance) b.i
 
 pub journals-fit : LegalJournalsAreShort → JournalsFit
 journals-fit short files s b H search =
-    let legal : AreLegalButDraws b (tries H) = λ k e there_is. (search.full.legal k e there_is).entry in
-    let len = short b H (record { valid = search-valid files s b H search; base = search.sound.given; seed = search.seed }) legal in
+    let legal : AreLegalButDraws b (tries H) = λ k e there_is. (search.made.full.legal k e there_is).entry in
+    let len = short b H (record { valid = search-valid files s b H search; base = search.given; seed = search.seed }) legal in
     let few = (legal-few b (tries H) legal).most in
-    let most = search.sound.given.lawful.entries in
+    let most = search.given.lawful.entries in
     let many = length-map H tried in
     omega (arith, len, few, most, many)
 
@@ -121,24 +119,36 @@ module _ (r : ReplayCall) (there left : Names) (x : JournalRead) (has : HasRead 
     | inr (inr (inr (inr unread))) ↦ inl (journal-accepted there r x has status text calm unread)
   ]
 
-  best-ends : (k : ℕ) → IsBest b (tries H) k → (status : Status) (text : List ℕ) → HasNoFault status
-      → JournalEnds taken refused said r (Some there) (Some left) status text
-      → EndsIn Done (said b (tries H) k) (left r.out ≡ Some (solution_at b (tries H) k)) status text
-  best-ends k best status text calm h = elim (comes-to status text calm h) [
-    | inl memory ↦ inl memory
-    | inr (inl (j, found, is, told, out)) ↦
-        let place = best-one b (tries H) j k found best in
-        inr (is, told ∙ ap (said b (tries H)) place, out ∙ ap (λ n. Some (solution_at b (tries H) n)) place)
-    | inr (inr (none, is, told)) ↦ absurd (best-or-none b (tries H) k best none)
-  ]
+-- whatever is behind the lines of a full history, salvage takes that history
+pub salvage-comes : LegalJournalsAreTaken → LegalJournalsDiffer → TakenLinesAreOfLegalHistories → (r : ReplayCall) (there left : Names) (x : JournalRead)
+    → HasRead (Some there) r x → (b : Base) → IsValid b.instance → IsBase b → (H : List Entry) → IsFull b 1 (tries H) → (extra : List ℕ)
+    → IsHeadedBy r.start x b (lines_from b.options 0 H ++ extra) → (status : Status) (text : List ℕ) → HasNoFault status
+    → SalvageEnds r (Some there) (Some left) status text → ComesTo salvaged_text b H (left r.out) status text
+salvage-comes taken differ texts r there left x has b valid base H full extra headed =
+    comes-to r there left x has b H (IsSalvage r.start) IsHeadless salvaged_text one (not-headless there r x has b (lines_from b.options 0 H ++ extra) headed)
+  where
+    one : (y : JournalRead) (c : Base) (G : List Entry) → HasRead (Some there) r y → IsSalvage r.start y c G → (c ≡ b) × (G ≡ H)
+    one y c G other is =
+        let same = same-search there r x has b (lines_from b.options 0 H ++ extra) headed y c is.bytes other is.headed in
+        let begins = subst (λ (d : Base). Begins d (lines_from b.options 0 H ++ extra) G is.rest) same.0
+        (subst (λ (t : List ℕ). Begins c t G is.rest) same.1 is.begins) in
+        (same.0, longest-is taken differ texts b valid base H full extra G is.rest begins)
 
-  none-ends : HasNone b (tries H) → (status : Status) (text : List ℕ) → HasNoFault status
-      → JournalEnds taken refused said r (Some there) (Some left) status text → EndsIn NoneFound none_found_text (Unit {0}) status text
-  none-ends none status text calm h = elim (comes-to status text calm h) [
-    | inl memory ↦ inl memory
-    | inr (inl (j, found, is, told, out)) ↦ absurd (best-or-none b (tries H) j found none)
-    | inr (inr (lacking, is, told)) ↦ inr (is, told, tt)
-  ]
+-- ---- what a call came to that found this history
+
+module _ (said : Base → List Tried → ℕ → List ℕ) (b : Base) (H : List Entry) (out : Option (List ℕ)) (status : Status) (text : List ℕ) where
+  ends-best : (k : ℕ) → IsBest b (tries H) k → ComesTo said b H out status text
+      → EndsIn Done (said b (tries H) k) (out ≡ Some (solution_at b (tries H) k)) status text
+  ends-best k best (inl memory) = inl memory
+  ends-best k best (inr (inl (j, found, is, told, same))) =
+      let place = best-one b (tries H) j k found best in
+      inr (is, told ∙ ap (said b (tries H)) place, same ∙ ap (λ n. Some (solution_at b (tries H) n)) place)
+  ends-best k best (inr (inr (none, is, told))) = absurd (best-or-none b (tries H) k best none)
+
+  ends-none : HasNone b (tries H) → ComesTo said b H out status text → EndsIn NoneFound none_found_text (Unit {0}) status text
+  ends-none none (inl memory) = inl memory
+  ends-none none (inr (inl (j, found, is, told, same))) = absurd (best-or-none b (tries H) j found none)
+  ends-none none (inr (inr (lacking, is, told))) = inr (is, told, tt)
 
 module _ (taken_law : LegalJournalsAreTaken) (differ : LegalJournalsDiffer) (texts : TakenLinesAreOfLegalHistories) (short : LegalJournalsAreShort)
     (s : SolveCall) (r : ReplayCall) (before after there left : Names) (of : IsReplayOf s r before after there)
@@ -160,7 +170,7 @@ module _ (taken_law : LegalJournalsAreTaken) (differ : LegalJournalsDiffer) (tex
           ∙ ap (λ (fill : Bool). started fill b.options.hard b.instance search.base.start.plan) (sym of.fill);
       freeze = search.base.start.started.freeze ∙ sym of.freeze;
     };
-    lawful = search.sound.given.lawful;
+    lawful = search.given.lawful;
     seed = search.seed;
     joins = refl;
   }
@@ -171,38 +181,17 @@ module _ (taken_law : LegalJournalsAreTaken) (differ : LegalJournalsDiffer) (tex
       let same = same-search there r found has b (lines_from b.options 0 H) headed y c (lines_from c.options 0 G) other is.headed in
       let full = subst (λ (x : Base). IsFull x 1 (tries G)) same.0 is.full in
       let lines : lines_from b.options 0 G ≡ lines_from b.options 0 H = ap (λ (x : Base). lines_from x.options 0 G) (sym same.0) ∙ same.1 in
-      (same.0, differ b G H valid search.sound.given full.legal search.full.legal lines)
+      (same.0, differ b G H valid search.given full.legal search.made.full.legal lines)
 
-  one-salvage : (y : JournalRead) (c : Base) (G : List Entry) → HasRead (Some there) r y → IsSalvage r.start y c G → (c ≡ b) × (G ≡ H)
-  one-salvage y c G other is =
-      let same = same-search there r found has b (lines_from b.options 0 H) headed y c is.bytes other is.headed in
-      let begins = subst (λ (x : Base). Begins x (lines_from b.options 0 H) G is.rest) same.0
-      (subst (λ (t : List ℕ). Begins c t G is.rest) same.1 is.begins) in
-      (same.0, all-salvaged taken_law differ texts b valid search.sound.given H G is.rest search.full.legal begins)
+  replay-comes : (status : Status) (text : List ℕ) → HasNoFault status → ReplayEnds r (Some there) (Some left) status text
+      → ComesTo done_text b H (left r.out) status text
+  replay-comes = comes-to r there left found has b H (IsReplay r.start) (IsRefusedJournal r.start) done_text one-replay
+      (not-refused there r found has b H headed search.made.full)
 
-  replay-never : (e : JournalRefusal) → IsRefused (IsRefusedJournal r.start) r (Some there) e → ⊥
-  replay-never e h = not-refused there r found has b H headed search.full e h
-
-  salvage-never : (e : JournalRefusal) → IsRefused IsHeadless r (Some there) e → ⊥
-  salvage-never e h = not-headless there r found has b (lines_from b.options 0 H) headed e h
-
-  replay-best : (k : ℕ) → IsBest b (tries H) k → (status : Status) (text : List ℕ) → HasNoFault status
-      → JournalEnds (IsReplay r.start) (IsRefusedJournal r.start) done_text r (Some there) (Some left) status text
-      → EndsIn Done (done_text b (tries H) k) (left r.out ≡ Some (solution_at b (tries H) k)) status text
-  replay-best k best status text calm ends = best-ends r there left found has b H (IsReplay r.start) (IsRefusedJournal r.start) done_text one-replay replay-never k best status text calm ends
-
-  salvage-best : (k : ℕ) → IsBest b (tries H) k → (status : Status) (text : List ℕ) → HasNoFault status
-      → JournalEnds (IsSalvage r.start) IsHeadless salvaged_text r (Some there) (Some left) status text
-      → EndsIn Done (salvaged_text b (tries H) k) (left r.out ≡ Some (solution_at b (tries H) k)) status text
-  salvage-best k best status text calm ends = best-ends r there left found has b H (IsSalvage r.start) IsHeadless salvaged_text one-salvage salvage-never k best status text calm ends
-
-  replay-none : HasNone b (tries H) → (status : Status) (text : List ℕ) → HasNoFault status
-      → JournalEnds (IsReplay r.start) (IsRefusedJournal r.start) done_text r (Some there) (Some left) status text → EndsIn NoneFound none_found_text (Unit {0}) status text
-  replay-none none status text calm ends = none-ends r there left found has b H (IsReplay r.start) (IsRefusedJournal r.start) done_text one-replay replay-never none status text calm ends
-
-  salvage-none : HasNone b (tries H) → (status : Status) (text : List ℕ) → HasNoFault status
-      → JournalEnds (IsSalvage r.start) IsHeadless salvaged_text r (Some there) (Some left) status text → EndsIn NoneFound none_found_text (Unit {0}) status text
-  salvage-none none status text calm ends = none-ends r there left found has b H (IsSalvage r.start) IsHeadless salvaged_text one-salvage salvage-never none status text calm ends
+  salvage-back : (status : Status) (text : List ℕ) → HasNoFault status → SalvageEnds r (Some there) (Some left) status text
+      → ComesTo salvaged_text b H (left r.out) status text
+  salvage-back = salvage-comes taken_law differ texts r there left found has b valid search.given H search.made.full []
+      (subst (IsHeadedBy r.start found b) (sym (append-nil (lines_from b.options 0 H))) headed)
 
 pub solves-replayed : LegalJournalsAreTaken → LegalJournalsDiffer → TakenLinesAreOfLegalHistories → LegalJournalsAreShort → SolvesReplayTheSame
 solves-replayed taken_law differ texts short s r before after there left text ended said of calm done =
@@ -212,15 +201,22 @@ solves-replayed taken_law differ texts short s r before after there left text en
     let out : (left r.out ≡ Some (solution_at b (tries H) k)) → left r.out ≡ after s.out = λ same. same ∙ sym done.0.written.out in
     record {
       replayed = λ ends. ends-as Done (done_text b (tries H) k) text (left r.out ≡ Some (solution_at b (tries H) k)) (left r.out ≡ after s.out) ended said (sym done.1) out
-          (replay-best taken_law differ texts short s r before after there left of b H done.0.search done.0.written.journal k done.0.best ended said calm ends);
+          (ends-best done_text b H (left r.out) ended said k done.0.best
+          (replay-comes taken_law differ texts short s r before after there left of b H done.0.search done.0.written.journal ended said calm ends));
       salvaged = λ ends.
           ends-as Done (salvaged_text b (tries H) k) (salvaged_line (length H) ++ text) (left r.out ≡ Some (solution_at b (tries H) k)) (left r.out ≡ after s.out) ended said
           (ap₂ (λ n t. salvaged_line n ++ t) (length-map H tried) (sym done.1)) out
-          (salvage-best taken_law differ texts short s r before after there left of b H done.0.search done.0.written.journal k done.0.best ended said calm ends);
+          (ends-best salvaged_text b H (left r.out) ended said k done.0.best
+          (salvage-back taken_law differ texts short s r before after there left of b H done.0.search done.0.written.journal ended said calm ends));
     }
 
 pub solves-none-replayed : LegalJournalsAreTaken → LegalJournalsDiffer → TakenLinesAreOfLegalHistories → LegalJournalsAreShort → SolvesWithNoneReplayTheSame
-solves-none-replayed taken_law differ texts short s r before after there left ended said of calm found = record {
-  replayed = λ ends. replay-none taken_law differ texts short s r before after there left of found.0.base found.0.history found.0.search found.0.written.journal found.1 ended said calm ends;
-  salvaged = λ ends. salvage-none taken_law differ texts short s r before after there left of found.0.base found.0.history found.0.search found.0.written.journal found.1 ended said calm ends;
-}
+solves-none-replayed taken_law differ texts short s r before after there left ended said of calm found =
+    let b = found.0.base in
+    let H = found.0.history in
+    record {
+      replayed = λ ends. ends-none done_text b H (left r.out) ended said found.1
+          (replay-comes taken_law differ texts short s r before after there left of b H found.0.search found.0.written.journal ended said calm ends);
+      salvaged = λ ends. ends-none salvaged_text b H (left r.out) ended said found.1
+          (salvage-back taken_law differ texts short s r before after there left of b H found.0.search found.0.written.journal ended said calm ends);
+    }

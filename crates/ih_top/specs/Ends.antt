@@ -9,20 +9,14 @@ use Rattle.ih_words.specs.Words.{Call, solve, replay, salvage, check, chain, rou
 use Rattle.ih_shelf.specs.Outside.{Names, IfTold}
 use Rattle.ih_answers.specs.declared.status.Status.{Status}
 use Rattle.ih_answers.specs.declared.status.Status.TheVariants.{Done, Usage, NoneFound, OutOfMemory, Infeasible}
-use Rattle.ih_top.specs.Advise.{IsAdvised}
+use Rattle.ih_top.specs.Commands.{IsAdvised, advise_inputs, check_inputs, solve_inputs, IsChecked, GenEnds}
 use Rattle.ih_answers.specs.Ends.{Ends, Unchanged}
 use Rattle.ih_inputs.specs.Reading.{Given, HasGiven, InputFiles}
 use Rattle.ih_frame.specs.Ends.{CommandEnds}
-use Rattle.ih_top.specs.Inputs.{advise_inputs, check_inputs, solve_inputs}
-use Rattle.ih_top.specs.Solve.{SolveEnds}
-use Rattle.ih_top.specs.JournalFiles.{HasRead, JournalRead}
-use Rattle.ih_top.specs.JournalHeading.{IsHeadedBy}
-use Rattle.ih_top.specs.Replay.{ReplayEnds}
-use Rattle.ih_top.specs.Salvage.{SalvageEnds}
-use Rattle.ih_top.specs.Chain.{ChainEnds}
-use Rattle.ih_top.specs.Check.{IsChecked}
+use Rattle.ih_top.specs.Searches.{SolveEnds, ChainEnds}
+use Rattle.ih_top.specs.JournalFiles.{HasRead, JournalRead, IsHeadedBy}
+use Rattle.ih_top.specs.JournalUses.{ReplayEnds, SalvageEnds}
 use Rattle.ih_top.specs.Rounds.{RoundsEnds}
-use Rattle.ih_top.specs.Generate.{GenEnds}
 use Rattle.ih_top.specs.Demo.{DemoEnds}
 use Rattle.ih_answers.specs.Texts.{memory_text}
 use Rattle.ih_top.specs.Texts.{usage_text}
@@ -64,15 +58,10 @@ IsUntouched (Some call) old new = Unit {0}
 
 -- the answers of a call that has all that it needs
 abbrev pub IsAnswered : Call → Status → Type 0
-IsAnswered (solve s) status = (status ≡ Done) ⊎ (status ≡ NoneFound) ⊎ (status ≡ OutOfMemory)
-IsAnswered (replay r) status = (status ≡ Done) ⊎ (status ≡ NoneFound) ⊎ (status ≡ OutOfMemory)
-IsAnswered (salvage r) status = (status ≡ Done) ⊎ (status ≡ NoneFound) ⊎ (status ≡ OutOfMemory)
 IsAnswered (check c) status = (status ≡ Done) ⊎ (status ≡ Infeasible) ⊎ (status ≡ OutOfMemory)
-IsAnswered (chain c) status = (status ≡ Done) ⊎ (status ≡ NoneFound) ⊎ (status ≡ OutOfMemory)
-IsAnswered (rounds r) status = (status ≡ Done) ⊎ (status ≡ NoneFound) ⊎ (status ≡ OutOfMemory)
 IsAnswered (advise a) status = (status ≡ Done) ⊎ (status ≡ OutOfMemory)
 IsAnswered (gen g) status = (status ≡ Done) ⊎ (status ≡ OutOfMemory)
-IsAnswered (demo number) status = (status ≡ Done) ⊎ (status ≡ NoneFound) ⊎ (status ≡ OutOfMemory)
+IsAnswered call status = (status ≡ Done) ⊎ (status ≡ NoneFound) ⊎ (status ≡ OutOfMemory)
 
 -- files are named so, and all of them are accepted
 abbrev pub AreGiven : InputFiles → Names → Type 0

@@ -1,11 +1,31 @@
--- What holds of each history that the program makes, or takes from a journal.
-use Rattle.std.specs.Prelude.{ℕ, List}
+-- What a search starts from, by the files and the words, and what holds of each history that the program makes, or
+-- takes from a journal.
+use Rattle.std.specs.Prelude.{◌≡◌, ℕ, List, Option}
+use Rattle.ih_tables.specs.declared.drafts.Draft.{Draft}
+use Rattle.ih_plan.specs.Timetable.{Timetable}
 use Rattle.ih_journal.specs.Base.{Base}
+use Rattle.ih_arguments.specs.Start.{StartCall}
+use Rattle.ih_shelf.specs.Outside.{Names}
+use Rattle.ih_inputs.specs.Reading.{HasInputs, two_files}
+use Rattle.ih_fill.specs.Starts.{started}
 use Rattle.ih_journal.specs.Tried.{Tried}
 use Rattle.ih_journal.specs.Frozen.{AgreesBefore}
 use Rattle.ih_journal.specs.History.{plan_at}
 use Rattle.ih_cellbook.specs.Keeping.{IsBase}
 use Rattle.ih_cellbook.specs.Legal.{AreExact}
+
+-- A search begins as the words say, on an instance and with a timetable that was read. The fill takes the weight of a
+-- broken rule from the options.
+pub record IsStarted (s : StartCall) (I : Draft) (P : Timetable) (b : Base) : Type 0 where
+  pub instance : b.instance ≡ I
+  pub start : b.start ≡ started s.fill b.options.hard I P
+  pub freeze : b.freeze ≡ s.freeze
+
+-- what the files and the words give a search, but for its options
+pub record HasStart (files : Option Names) (instance : List ℕ) (s : StartCall) (b : Base) : Type 0 where
+  pub plan : Timetable
+  pub inputs : HasInputs files (two_files instance s.file) b.instance plan
+  pub started : IsStarted s b.instance plan b
 
 -- The start is a timetable of the instance, and the options are lawful. Each timetable of the history agrees with the
 -- start on the choices before the freeze day, and each accepted price is the change of the bill at its own place.

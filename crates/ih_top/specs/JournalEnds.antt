@@ -16,7 +16,7 @@ use Rattle.ih_answers.specs.Ends.{Unchanged}
 use Rattle.ih_answers.specs.Inputs.{EndsUnread}
 use Rattle.ih_answers.specs.Texts.{memory_text, unwritten_text, none_found_text}
 use Rattle.ih_top.specs.Texts.{journal_refused_text}
-use Rattle.ih_top.specs.Inputs.{replay_inputs}
+use Rattle.ih_top.specs.Commands.{replay_inputs}
 use Rattle.ih_top.specs.JournalFiles.{JournalRead, HasRead}
 
 -- A history was taken from the journal, and the solution of its first cheapest feasible timetable is written as far as

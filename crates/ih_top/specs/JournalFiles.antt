@@ -1,12 +1,20 @@
--- The files that replay and salvage read: an instance, a start and a journal.
-use Rattle.std.specs.Prelude.{ℕ, List, [], unwrap_or, Option, IfSome}
+-- The files that replay and salvage read, an instance, a start and a journal, and what a journal is headed by.
+use Rattle.std.specs.Prelude.{ℕ, List, [], unwrap_or, Option, IfSome, ◌≡◌, ◌<◌, ◌^◌, ◌++◌}
 use Rattle.ih_tables.specs.declared.drafts.Draft.{Draft}
 use Rattle.ih_plan.specs.Timetable.{Timetable}
 use Rattle.ih_words.specs.Replay.{ReplayCall}
 use Rattle.ih_shelf.specs.Outside.{Names}
 use Rattle.ih_inputs.specs.declared.reading.Inputs.{Inputs}
 use Rattle.ih_inputs.specs.Reading.{Given, HasBytes, HasInputs}
-use Rattle.ih_top.specs.Inputs.{replay_inputs}
+use Rattle.ih_top.specs.Commands.{replay_inputs}
+use Rattle.ih_tables.specs.declared.journal_refusals.JournalRefusal.{JournalRefusal}
+use Rattle.ih_tables.specs.declared.journal_refusals.Reason.TheVariants.{Heading}
+use Rattle.ih_journal.specs.declared.settings.Options.{Options}
+use Rattle.ih_journal.specs.Base.{Base}
+use Rattle.ih_journal.specs.Settings.{IsLawful}
+use Rattle.ih_journal.specs.Texts.{ended, heading}
+use Rattle.ih_arguments.specs.Start.{StartCall}
+use Rattle.ih_top.specs.Histories.{IsStarted}
 
 -- an instance, the timetable of the start before it is filled, and the bytes of a journal
 pub record JournalRead : Type 0 where
@@ -31,3 +39,23 @@ pub record HasStartGiven (files : Option Names) (r : ReplayCall) : Type 0 where
   pub instance : Draft
   pub plan : Timetable
   pub inputs : HasInputs files (replay_inputs r) instance plan
+
+-- the journal has the heading of the search's options, and behind it the bytes
+pub record IsHeadedBy (s : StartCall) (x : JournalRead) (b : Base) (bytes : List ℕ) : Type 0 where
+  pub started : IsStarted s x.instance x.plan b
+  pub lawful : IsLawful b.options
+  pub seed : b.options.seed < 2 ^ 64
+  pub joins : x.bytes ≡ ended (heading b.options) ++ bytes
+
+-- the bytes begin with no heading of lawful options and its line feed
+abbrev pub HasNoHeading : List ℕ → Type 0
+HasNoHeading bytes =
+    (o : Options) (more : List ℕ) → IsLawful o → o.seed < 2 ^ 64 → bytes ≡ ended (heading o) ++ more → ⊥
+
+-- line 1 is no heading
+abbrev pub no_heading : JournalRefusal
+no_heading = record { line = 1; reason = Heading }
+
+pub record IsHeadless (x : JournalRead) (e : JournalRefusal) : Type 0 where
+  pub none : HasNoHeading x.bytes
+  pub refusal : e ≡ no_heading

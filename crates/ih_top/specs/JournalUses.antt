@@ -1,26 +1,65 @@
--- What a journal is read for: which histories are taken from it, how it is refused, and what is said of it.
-use Rattle.std.specs.Prelude.{◌≡◌, ℕ, List, Option}
+-- What a journal is read for: which histories are taken from it, how it is refused, what is said of it, and how the call
+-- ends.
+use Rattle.std.specs.Prelude.{◌≡◌, ℕ, ◌⊎◌, List, Option}
 use Rattle.ih_journal.specs.declared.entries.Entry.{Entry}
 use Rattle.ih_tables.specs.declared.journal_refusals.JournalRefusal.{JournalRefusal}
 use Rattle.ih_journal.specs.Base.{Base}
-use Rattle.ih_journal.specs.Tried.{Tried}
+use Rattle.ih_journal.specs.Tried.{tries, Tried}
+use Rattle.ih_journal.specs.Legal.{IsFull}
+use Rattle.ih_journal.specs.Texts.{lines_from}
 use Rattle.ih_words.specs.Replay.{ReplayCall}
 use Rattle.ih_arguments.specs.Start.{StartCall}
 use Rattle.ih_shelf.specs.Outside.{Names}
+use Rattle.ih_answers.specs.declared.status.Status.{Status}
+use Rattle.ih_top.specs.Histories.{IsSound}
+use Rattle.ih_top.specs.JournalLines.{IsRefusedAt, Begins}
+use Rattle.ih_top.specs.Texts.{done_text, salvaged_text}
+use Rattle.ih_top.specs.JournalEnds.{JournalEnds}
+use Rattle.ih_top.specs.JournalFiles.{JournalRead, IsHeadedBy, IsHeadless, read_of}
 use Rattle.ih_top.specs.declared.journals.JournalUse.{JournalUse}
 use Rattle.ih_top.specs.declared.journals.JournalUse.TheVariants.{Replay, Salvage}
 use Rattle.ih_top.specs.declared.outcome.JournalOutcome.{JournalOutcome}
-use Rattle.ih_top.specs.declared.outcome.JournalOutcome.TheVariants.{Refused, Taken}
 use Rattle.ih_inputs.specs.Reading.{Given}
 use Rattle.ih_frame.specs.Outcomes.{OutcomeState}
-use Rattle.ih_answers.specs.declared.status.Status.{Status}
-use Rattle.ih_top.specs.JournalEnds.{JournalEnds}
-use Rattle.ih_top.specs.JournalFiles.{JournalRead, read_of}
-use Rattle.ih_top.specs.JournalHeading.{IsHeadless}
-use Rattle.ih_top.specs.Outcomes.{AreLines, IsLinesOutcome, IsOutcome, journal_outcome}
-use Rattle.ih_top.specs.Replay.{IsRefusedJournal, IsReplay}
-use Rattle.ih_top.specs.Salvage.{IsSalvage}
-use Rattle.ih_top.specs.Texts.{done_text, salvaged_text}
+use Rattle.ih_top.specs.Outputs.{IsOutcome, journal_outcome}
+
+-- the journal is that of a full history of the search
+pub record IsReplay (s : StartCall) (x : JournalRead) (b : Base) (H : List Entry) : Type 0 where
+  pub headed : IsHeadedBy s x b (lines_from b.options 0 H)
+  pub full : IsFull b 1 (tries H)
+  pub sound : IsSound b (tries H)
+
+-- the bytes are the lines of no full history
+abbrev pub AreNotFull : Base → List ℕ → Type 0
+AreNotFull b bytes = (H : List Entry) → IsFull b 1 (tries H) → bytes ≡ lines_from b.options 0 H → ⊥
+
+-- a line behind the heading is the first that isn't as it ought to be
+pub record HasRefusedLine (s : StartCall) (x : JournalRead) (e : JournalRefusal) : Type 0 where
+  pub base : Base
+  pub history : List Entry
+  pub bytes : List ℕ
+  pub headed : IsHeadedBy s x base bytes
+  pub refused : IsRefusedAt base bytes history e
+  pub none : AreNotFull base bytes
+
+-- the journal is that of no full history of the search
+abbrev pub IsRefusedJournal : StartCall → JournalRead → JournalRefusal → Type 0
+IsRefusedJournal s x e = IsHeadless x e ⊎ HasRefusedLine s x e
+
+abbrev pub ReplayEnds : ReplayCall → Option Names → Option Names → Status → List ℕ → Type 0
+ReplayEnds r old new status text =
+    JournalEnds (IsReplay r.start) (IsRefusedJournal r.start) done_text r old new status text
+
+-- H is the longest legal history of the search whose lines follow the journal's heading
+pub record IsSalvage (s : StartCall) (x : JournalRead) (b : Base) (H : List Entry) : Type 0 where
+  pub bytes : List ℕ
+  pub rest : List ℕ
+  pub headed : IsHeadedBy s x b bytes
+  pub begins : Begins b bytes H rest
+  pub sound : IsSound b (tries H)
+
+abbrev pub SalvageEnds : ReplayCall → Option Names → Option Names → Status → List ℕ → Type 0
+SalvageEnds r old new status text = JournalEnds (IsSalvage r.start) IsHeadless salvaged_text r old new status text
 
 abbrev pub taken_for : JournalUse → StartCall → JournalRead → Base → List Entry → Type 0
 taken_for Replay = IsReplay
@@ -35,16 +74,15 @@ abbrev pub said_for : JournalUse → Base → List Tried → ℕ → List ℕ
 said_for Replay = done_text
 said_for Salvage = salvaged_text
 
--- what the lines behind a heading come to
-abbrev pub IsLinesFor : JournalUse → Base → List ℕ → JournalOutcome → Type 0
-IsLinesFor Replay b bytes o = IsLinesOutcome b bytes o
-IsLinesFor Salvage b bytes (Taken best) = AreLines b bytes best
-IsLinesFor Salvage b bytes (Refused e) = ⊥
-
 -- what the journal comes to
 abbrev pub IsOutcomeFor : JournalUse → StartCall → JournalRead → JournalOutcome → Type 0
 IsOutcomeFor journal_use s x o =
     IsOutcome (taken_for journal_use s x) (refused_for journal_use s x) (said_for journal_use) o
+
+-- what the lines behind a heading come to: the journal comes to that, whichever it is
+unfoldable pub IsLinesFor : JournalUse → Base → List ℕ → JournalOutcome → Type 0
+IsLinesFor journal_use b bytes o =
+    (s : StartCall) (x : JournalRead) → IsHeadedBy s x b bytes → IsOutcomeFor journal_use s x o
 
 -- what the call comes to: what the journal comes to is written and said
 pub record IsJournalUse (journal_use : JournalUse) (r : ReplayCall) (g : Given) (o : OutcomeState) : Type 0 where

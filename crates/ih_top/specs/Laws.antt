@@ -15,9 +15,8 @@ use Rattle.ih_cellbook.specs.Keeping.{IsBase}
 use Rattle.ih_chain.specs.declared.entries.ChainEntry.{ChainEntry}
 use Rattle.ih_chain.specs.Texts.{chain_journal}
 use Rattle.ih_rounds.specs.Rounds.{Round, base_in, histories, journals}
-use Rattle.ih_words.specs.Chain.{ChainCall}
+use Rattle.ih_words.specs.Plain.{PlainCall}
 use Rattle.ih_words.specs.Replay.{ReplayCall}
-use Rattle.ih_words.specs.Rounds.{RoundsCall}
 use Rattle.ih_words.specs.Solve.{SolveCall}
 use Rattle.ih_words.specs.Words.{IsNamed, chain, rounds}
 use Rattle.ih_shelf.specs.Outside.{Names, bytes_at}
@@ -25,16 +24,12 @@ use Rattle.ih_inputs.specs.declared.reading.TheConstants.{MAX_JOURNAL}
 use Rattle.ih_answers.specs.declared.status.Status.{Status}
 use Rattle.ih_answers.specs.declared.status.Status.TheVariants.{Done, JournalRefused, NoneFound, OutOfMemory}
 use Rattle.ih_frame.specs.Ends.{HasNoFault}
-use Rattle.ih_top.specs.Chain.{of_chains}
+use Rattle.ih_top.specs.Searches.{of_chains, HasFoundNone, IsDone, IsSearch, SearchEnds, SearchForm, solution_at, of_moves}
 use Rattle.ih_top.specs.Demo.{IsShown}
-use Rattle.ih_top.specs.JournalFiles.{HasStartGiven}
+use Rattle.ih_top.specs.JournalFiles.{HasStartGiven, HasNoHeading, no_heading}
 use Rattle.ih_top.specs.JournalLines.{Begins, IsRefusedAt}
-use Rattle.ih_top.specs.JournalHeading.{HasNoHeading, no_heading}
-use Rattle.ih_top.specs.Replay.{AreNotFull, ReplayEnds}
-use Rattle.ih_top.specs.Salvage.{SalvageEnds}
-use Rattle.ih_top.specs.Rounds.{AreSearches, RoundsEnds}
-use Rattle.ih_top.specs.Searches.{HasFoundNone, IsDone, IsSearch, JournalForm, SearchEnds, solution_at}
-use Rattle.ih_top.specs.Solve.{of_moves}
+use Rattle.ih_top.specs.JournalUses.{AreNotFull, ReplayEnds, SalvageEnds}
+use Rattle.ih_top.specs.Rounds.{of_rounds}
 use Rattle.ih_top.specs.Texts.{journal_refused_text, salvaged_line, salvaged_text}
 use Rattle.ih_answers.specs.Texts.{none_found_text}
 
@@ -52,9 +47,9 @@ WholeLinesAreSalvaged = (b : Base) (G : List Entry) (bytes more : List ℕ) (H :
 
 -- ---- searches of one worker
 
--- with one worker, files and words give one search and one history, by single moves or by chains
-abbrev pub LoneSearchesAreAlike : {X : Type 0} → JournalForm X → Type 0
-LoneSearchesAreAlike {X} form = (files : Names) (s : SolveCall) (b c : Base) (H G : List X) → s.options.workers ≡ 1
+-- with one worker, files and words give one search and one history, by single moves, by chains or in rounds
+abbrev pub LoneSearchesAreAlike : {X K : Type 0} → SearchForm X K → Type 0
+LoneSearchesAreAlike {X} form = (files : Names) (s : SolveCall) (b c : Base) (H G : X) → s.options.workers ≡ 1
     → IsSearch form (Some files) s b H → IsSearch form (Some files) s c G → (b ≡ c) × (H ≡ G)
 
 -- two calls that are done leave the same journal and the same solution, and say the same
@@ -63,7 +58,7 @@ pub record DoTheSame (s : SolveCall) (new other : Names) (text told : List ℕ) 
   pub solution : new s.out ≡ other s.out
   pub said : text ≡ told
 
-abbrev pub LoneSearchesDoTheSame : {X : Type 0} → JournalForm X → Type 0
+abbrev pub LoneSearchesDoTheSame : {X K : Type 0} → SearchForm X K → Type 0
 LoneSearchesDoTheSame form = (s : SolveCall) (old new other : Names) (text told : List ℕ) → s.options.workers ≡ 1
     → IsDone form s (Some old) (Some new) text → IsDone form s (Some old) (Some other) told
     → DoTheSame s new other text told
@@ -76,24 +71,11 @@ pub record EndTheSame (first second : Status) (text told : List ℕ) (new other 
 
 -- However two calls over the same files end, also where a file is refused: with no fault, and memory enough, they end
 -- the same.
-abbrev pub LoneSearchesEndAlike : {X : Type 0} → JournalForm X → Type 0
+abbrev pub LoneSearchesEndAlike : {X K : Type 0} → SearchForm X K → Type 0
 LoneSearchesEndAlike form =
     (s : SolveCall) (old new other : Names) (status ended : Status) (text told : List ℕ) → s.options.workers ≡ 1
     → HasNoFault status → HasNoFault ended → status ≢ OutOfMemory → ended ≢ OutOfMemory
     → SearchEnds form s (Some old) (Some new) status text → SearchEnds form s (Some old) (Some other) ended told
-    → EndTheSame status ended text told new other
-
--- and one run of rounds, each with one history
-abbrev pub LoneRoundsAreAlike : Type 0
-LoneRoundsAreAlike = (files : Names) (r : RoundsCall) (b c : Base) (rs ss : List Round) → r.search.options.workers ≡ 1
-    → AreSearches (Some files) r b rs → AreSearches (Some files) r c ss → (b ≡ c) × (rs ≡ ss)
-
--- However two calls of rounds over the same files end: the same.
-abbrev pub LoneRoundsEndAlike : Type 0
-LoneRoundsEndAlike =
-    (r : RoundsCall) (old new other : Names) (status ended : Status) (text told : List ℕ) → r.search.options.workers ≡ 1
-    → HasNoFault status → HasNoFault ended → status ≢ OutOfMemory → ended ≢ OutOfMemory
-    → RoundsEnds r (Some old) (Some new) status text → RoundsEnds r (Some old) (Some other) ended told
     → EndTheSame status ended text told new other
 
 -- what a demo shows follows from its number
@@ -102,16 +84,11 @@ DemosShowTheSame = (number : ℕ) (said told : Option (List ℕ)) → IsShown nu
 
 -- ---- what a journal tells
 
--- a call left the journal of this history
-pub record HasLeft {X : Type 0} (form : JournalForm X) (s : SolveCall) (old new : Names) (b : Base) (H : List X)
+-- a call left the journal of this
+pub record HasLeft {X K : Type 0} (form : SearchForm X K) (s : SolveCall) (old new : Names) (b : Base) (H : X)
     : Type 0 where
   pub search : IsSearch form (Some old) s b H
   pub written : new s.journal ≡ Some (form.journal b.options H)
-
--- a call of rounds left their journals
-pub record HaveLeft (r : RoundsCall) (old new : Names) (b : Base) (rs : List Round) : Type 0 where
-  pub searches : AreSearches (Some old) r b rs
-  pub written : new r.search.journal ≡ Some (journals b.options 0 rs)
 
 -- Two calls of solve over instances with the same bytes, which left the same journal, had the same options and made the
 -- same history.
@@ -123,18 +100,19 @@ SolvesAreToldApart = (s t : SolveCall) (old new before after : Names) (b c : Bas
 
 -- So have two calls of chain that words name, and their chains had the same length.
 abbrev pub ChainsAreToldApart : Type 0
-ChainsAreToldApart = (s t : ChainCall) (old new before after : Names) (b c : Base) (H G : List ChainEntry)
+ChainsAreToldApart = (s t : PlainCall) (old new before after : Names) (b c : Base) (H G : List ChainEntry)
     → IsNamed (chain s) → IsNamed (chain t) → bytes_at old s.search.instance ≡ bytes_at before t.search.instance
-    → HasLeft (of_chains s.length) s.search old new b H → HasLeft (of_chains t.length) t.search before after c G
+    → HasLeft (of_chains s.number) s.search old new b H → HasLeft (of_chains t.number) t.search before after c G
     → new s.search.journal ≡ after t.search.journal
-    → (s.search.options ≡ t.search.options) × (s.length ≡ t.length) × (H ≡ G)
+    → (s.search.options ≡ t.search.options) × (s.number ≡ t.number) × (H ≡ G)
 
 -- So have two calls of rounds that words name: each round has the same history, and there are as many.
 abbrev pub RoundsAreToldApart : Type 0
-RoundsAreToldApart = (s t : RoundsCall) (old new before after : Names) (b c : Base) (rs ss : List Round)
+RoundsAreToldApart = (s t : PlainCall) (old new before after : Names) (b c : Base) (rs ss : List Round)
     → IsNamed (rounds s) → IsNamed (rounds t) → bytes_at old s.search.instance ≡ bytes_at before t.search.instance
-    → HaveLeft s old new b rs → HaveLeft t before after c ss → new s.search.journal ≡ after t.search.journal
-    → (s.search.options ≡ t.search.options) × (s.rounds ≡ t.rounds) × (histories rs ≡ histories ss)
+    → HasLeft (of_rounds s.number) s.search old new b rs → HasLeft (of_rounds t.number) t.search before after c ss
+    → new s.search.journal ≡ after t.search.journal
+    → (s.search.options ≡ t.search.options) × (s.number ≡ t.number) × (histories rs ≡ histories ss)
 
 -- ---- what solve writes, replay and salvage take
 
@@ -198,9 +176,9 @@ ChainJournalsAreHeadless = (o : Options) (each : ℕ) (H : List ChainEntry) → 
 
 -- the journal of a search by chains that words name is no longer than a journal's file may be
 abbrev pub ChainJournalsFit : Type 0
-ChainJournalsFit = (files : Names) (c : ChainCall) (b : Base) (H : List ChainEntry) → IsNamed (chain c)
-    → IsSearch (of_chains c.length) (Some files) c.search b H
-    → length (chain_journal b.options c.length H) ≤ MAX_JOURNAL
+ChainJournalsFit = (files : Names) (c : PlainCall) (b : Base) (H : List ChainEntry) → IsNamed (chain c)
+    → IsSearch (of_chains c.number) (Some files) c.search b H
+    → length (chain_journal b.options c.number H) ≤ MAX_JOURNAL
 
 -- After a search by chains left its journal, replay and salvage refuse that at its heading, or memory runs out.
 pub record IsRefusedBack (r : ReplayCall) (there left : Names) (ended : Status) (said : List ℕ) : Type 0 where
@@ -211,9 +189,9 @@ pub record IsRefusedBack (r : ReplayCall) (there left : Names) (ended : Status) 
 
 -- So they do with whatever instance and start are accepted.
 abbrev pub ChainsAreRefused : Type 0
-ChainsAreRefused = (c : ChainCall) (r : ReplayCall) (before after there left : Names) (b : Base) (H : List ChainEntry)
+ChainsAreRefused = (c : PlainCall) (r : ReplayCall) (before after there left : Names) (b : Base) (H : List ChainEntry)
     (ended : Status) (said : List ℕ)
-    → IsNamed (chain c) → HasLeft (of_chains c.length) c.search before after b H
+    → IsNamed (chain c) → HasLeft (of_chains c.number) c.search before after b H
     → HasStartGiven (Some there) r → bytes_at there r.journal ≡ bytes_at after c.search.journal → HasNoFault ended
     → IsRefusedBack r there left ended said
 
@@ -225,14 +203,14 @@ second_heading first = record { line = length first.history + 2; reason = Extra 
 
 -- the journals of rounds that words name are no longer than a journal's file may be
 abbrev pub RoundJournalsFit : Type 0
-RoundJournalsFit = (files : Names) (c : RoundsCall) (b : Base) (rs : List Round) → IsNamed (rounds c)
-    → AreSearches (Some files) c b rs → length (journals b.options 0 rs) ≤ MAX_JOURNAL
+RoundJournalsFit = (files : Names) (c : PlainCall) (b : Base) (rs : List Round) → IsNamed (rounds c)
+    → IsSearch (of_rounds c.number) (Some files) c.search b rs → length (journals b.options 0 rs) ≤ MAX_JOURNAL
 
 -- After two rounds or more left their journals, replay refuses them at the second heading, or memory runs out.
 abbrev pub RoundsAreRefused : Type 0
-RoundsAreRefused = (c : RoundsCall) (r : ReplayCall) (before after there left : Names) (b : Base)
+RoundsAreRefused = (c : PlainCall) (r : ReplayCall) (before after there left : Names) (b : Base)
     (first second : Round) (later : List Round) (ended : Status) (said : List ℕ)
-    → IsNamed (rounds c) → HaveLeft c before after b (first ∷ second ∷ later)
+    → IsNamed (rounds c) → HasLeft (of_rounds c.number) c.search before after b (first ∷ second ∷ later)
     → IsReplayOf c.search r before after there → HasNoFault ended → ReplayEnds r (Some there) (Some left) ended said
     → EndsIn (JournalRefused (second_heading first)) (journal_refused_text (second_heading first)) (Unit {0}) ended said
 
@@ -247,8 +225,8 @@ ComesTo said b H out ended text =
 
 -- Of such journals salvage takes the history of the first round, whatever the later ones are.
 abbrev pub RoundsAreSalvaged : Type 0
-RoundsAreSalvaged = (c : RoundsCall) (r : ReplayCall) (before after there left : Names) (b : Base)
+RoundsAreSalvaged = (c : PlainCall) (r : ReplayCall) (before after there left : Names) (b : Base)
     (first second : Round) (later : List Round) (ended : Status) (said : List ℕ)
-    → IsNamed (rounds c) → HaveLeft c before after b (first ∷ second ∷ later)
+    → IsNamed (rounds c) → HasLeft (of_rounds c.number) c.search before after b (first ∷ second ∷ later)
     → IsReplayOf c.search r before after there → HasNoFault ended → SalvageEnds r (Some there) (Some left) ended said
     → ComesTo salvaged_text (base_in b 0 first) first.history (left r.out) ended said

@@ -1,21 +1,25 @@
--- By what steps a call searches: which options that asks for, what it makes, and how the call ends.
+-- By what steps a call searches: which options that asks for, what it makes, and how the call ends. Also the calls whose
+-- work passes a gate: those and advise.
 use Rattle.std.specs.Prelude.{◌≡◌, ℕ, ◌≤◌, ◌*◌, List, Option}
 use Rattle.ih_journal.specs.declared.settings.Options.{Options}
 use Rattle.ih_journal.specs.declared.settings.TheConstants.{MAX_ENTRIES}
 use Rattle.ih_journal.specs.Base.{Base}
-use Rattle.ih_journal.specs.Settings.{most_entries}
-use Rattle.ih_words.specs.Solve.{SolveCall}
+use Rattle.ih_journal.specs.Settings.{most_entries, IsLawful}
+use Rattle.ih_words.specs.Solve.{SolveCall, solve_call}
 use Rattle.ih_shelf.specs.Outside.{Names}
-use Rattle.ih_inputs.specs.Reading.{Given}
+use Rattle.ih_inputs.specs.Reading.{Given, InputFiles}
 use Rattle.ih_frame.specs.Outcomes.{OutcomeState}
 use Rattle.ih_top.specs.declared.output.Output.{Output}
 use Rattle.ih_top.specs.declared.searching.Method.{Method}
 use Rattle.ih_top.specs.declared.searching.Method.TheVariants.{Moves, Chains, Rounds}
 use Rattle.ih_answers.specs.declared.status.Status.{Status}
-use Rattle.ih_top.specs.Chain.{ChainEnds, of_chains}
+use Rattle.ih_top.specs.Searches.{of_chains, SearchEnds, of_moves}
 use Rattle.ih_top.specs.Outputs.{IsOutput, base_from, search_outcome}
-use Rattle.ih_top.specs.Rounds.{IsRoundsOutput, RoundsEnds}
-use Rattle.ih_top.specs.Solve.{SolveEnds, of_moves}
+use Rattle.ih_top.specs.Rounds.{of_rounds}
+use Rattle.ih_words.specs.Advise.{IsLawfulAdvise, advise_call}
+use Rattle.ih_top.specs.declared.gated.Gated.{Gated}
+use Rattle.ih_top.specs.declared.gated.Gated.TheVariants.{Advise, Search}
+use Rattle.ih_top.specs.Commands.{IsAdvised, advise_inputs, solve_inputs}
 
 -- chains and rounds try nothing again and freeze nothing, and all chains together have at most a million moves
 abbrev pub IsLawfulFor : Method → Options → ℕ → Type 0
@@ -28,7 +32,7 @@ IsLawfulFor (Rounds count) o freeze = (o.retries ≡ 0) × (freeze ≡ 0)
 abbrev pub IsMade : Method → Base → Output → Type 0
 IsMade Moves b o = IsOutput of_moves b o
 IsMade (Chains each) b o = IsOutput (of_chains each) b o
-IsMade (Rounds count) b o = IsRoundsOutput b count o
+IsMade (Rounds count) b o = IsOutput (of_rounds count) b o
 
 -- what a call comes to that searches so: what its search makes is written and said
 pub record IsSearched (method : Method) (s : SolveCall) (g : Given) (o : OutcomeState) : Type 0 where
@@ -38,8 +42,19 @@ pub record IsSearched (method : Method) (s : SolveCall) (g : Given) (o : Outcome
 
 -- how the call ends
 abbrev pub MethodEnds : Method → SolveCall → Option Names → Option Names → Status → List ℕ → Type 0
-MethodEnds Moves s old new status text = SolveEnds s old new status text
-MethodEnds (Chains each) s old new status text =
-    ChainEnds (record { search = s; length = each }) old new status text
-MethodEnds (Rounds count) s old new status text =
-    RoundsEnds (record { search = s; rounds = count }) old new status text
+MethodEnds Moves s old new status text = SearchEnds of_moves s old new status text
+MethodEnds (Chains each) s old new status text = SearchEnds (of_chains each) s old new status text
+MethodEnds (Rounds count) s old new status text = SearchEnds (of_rounds count) s old new status text
+
+abbrev pub IsLawfulGated : Gated → Type 0
+IsLawfulGated (Search method call) =
+    IsLawful call.now.options × IsLawfulFor method call.now.options call.now.start.freeze
+IsLawfulGated (Advise call) = IsLawfulAdvise call.now
+
+abbrev pub gated_inputs : Gated → InputFiles
+gated_inputs (Search method call) = solve_inputs (solve_call call.now)
+gated_inputs (Advise call) = advise_inputs (advise_call call.now)
+
+abbrev pub comes_to : Gated → Given → OutcomeState → Type 0
+comes_to (Search method call) = IsSearched method (solve_call call.now)
+comes_to (Advise call) = IsAdvised (advise_call call.now)

@@ -3,7 +3,7 @@
 ghost use Rattle.std.specs.Prelude.{◌≡◌, ◌<◌, ◌^◌, IfOk, IfSome, length};
 ghost use Rattle.ih_plan.specs.Timetable.{IsPlanOf};
 ghost use Rattle.ih_chain.specs.Texts.{chain_journal};
-ghost use Rattle.ih_top.specs.Chain.{IsBestOfRun};
+ghost use Rattle.ih_top.specs.Outputs.{IsBestOfRun};
 
 use crate::output::{BestOutput, Output, found_text};
 use ih_chain::ChainRun;

@@ -3,8 +3,9 @@
 ghost use Rattle.std.specs.Prelude.{◌≡◌};
 ghost use Rattle.ih_words.specs.Check.{check_call};
 ghost use Rattle.ih_frame.specs.Outcomes.{IsOwnStatus};
-ghost use Rattle.ih_top.specs.{Check.IsChecked, Check.checked_status, Inputs.check_inputs};
+ghost use Rattle.ih_top.specs.{Commands.IsChecked, Commands.checked_status, Commands.check_inputs};
 
+use crate::inputs::two_names;
 use ih_answers::Status;
 use ih_frame::{Command, Outcome};
 use ih_inputs::{InputNames, Inputs};
@@ -40,13 +41,7 @@ impl<'c, 'w> Command for Checking<'c, 'w> {
     ghost comes_to = { λ c. IsChecked };
 
     fn names(&self) -> InputNames<'_> {
-        InputNames {
-            instance: self.call.instance,
-            solution: Some(self.call.solution),
-            older: None,
-            journal: None,
-            are_said: false,
-        }
+        two_names(self.call.instance, Some(self.call.solution))
     }
 
     fn outcome<'a, R: Threads + Wait + Sync>(

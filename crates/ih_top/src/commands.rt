@@ -7,12 +7,12 @@ ghost use Rattle.ih_answers.specs.Texts.{ReceivedPart};
 ghost use Rattle.ih_words.specs.Words.{HasLawfulOptions, command_call, OutDiffers};
 ghost use Rattle.ih_top.specs.{Ends.CallEnds, Ends.IsUntouched};
 
-use crate::advise::advise;
 use crate::check::Checking;
 use crate::demo::demo;
+use crate::gated::{Gated, perform_gated};
 use crate::generate::generated_outcome;
 use crate::journals::{JournalUse, Taking};
-use crate::searching::{Method, search};
+use crate::searching::Method;
 use ih_answers::{Status, conclude};
 use ih_frame::finish;
 use ih_shelf::{Gate, Shelf, Sink};
@@ -43,14 +43,17 @@ pub fn perform<R: Files + Print + Threads + Wait + Sync, S: Shelf, O: Sink, G: G
     ensures untouched { IsUntouched (Some (command_call command.now)) shelf.old shelf.new }
 {
     match command {
-        Command::Solve(call) => search(rt, alloc, Method::Moves, call, shelf, out, gate),
+        Command::Solve(call) => {
+            let gated = Gated::Search(Method::Moves, call);
+            perform_gated(rt, alloc, gated, shelf, out, gate)
+        }
         Command::Chain(chain) => {
-            let method = Method::Chains(chain.length);
-            search(rt, alloc, method, &chain.search, shelf, out, gate)
+            let gated = Gated::Search(Method::Chains(chain.number), &chain.search);
+            perform_gated(rt, alloc, gated, shelf, out, gate)
         }
         Command::Rounds(rounds) => {
-            let method = Method::Rounds(rounds.rounds);
-            search(rt, alloc, method, &rounds.search, shelf, out, gate)
+            let gated = Gated::Search(Method::Rounds(rounds.number), &rounds.search);
+            perform_gated(rt, alloc, gated, shelf, out, gate)
         }
         Command::Replay(call) => {
             let journal_use = JournalUse::Replay;
@@ -61,7 +64,7 @@ pub fn perform<R: Files + Print + Threads + Wait + Sync, S: Shelf, O: Sink, G: G
             ih_frame::perform(rt, alloc, &Taking { journal_use, call }, shelf, out)
         }
         Command::Check(call) => ih_frame::perform(rt, alloc, &Checking { call }, shelf, out),
-        Command::Advise(call) => advise(rt, alloc, call, shelf, out, gate),
+        Command::Advise(call) => perform_gated(rt, alloc, Gated::Advise(call), shelf, out, gate),
         Command::Gen(call) => {
             let made = generated_outcome(alloc, call);
             finish(rt, alloc, made, shelf, out)

@@ -3,7 +3,7 @@
 ghost use Rattle.std.specs.Prelude.{◌≡◌, IfOk};
 ghost use Rattle.ih_words.specs.Generate.{gen_call};
 ghost use Rattle.ih_frame.specs.Outcomes.{IsOwnStatus, outcome_of};
-ghost use Rattle.ih_top.specs.Generate.{generated_outcome};
+ghost use Rattle.ih_top.specs.Commands.{generated_outcome};
 
 use ih_answers::Role;
 use ih_frame::Outcome;

@@ -6,16 +6,18 @@ ghost use Rattle.ih_cellbook.specs.Keeping.{IsBase};
 ghost use Rattle.ih_desk.specs.Searching.{base_given};
 ghost use Rattle.ih_arguments.specs.{Start.start_call};
 ghost use Rattle.ih_words.specs.{Replay.replay_call};
-ghost use Rattle.ih_top.specs.{Inputs.replay_inputs, JournalFiles.read_from};
+ghost use Rattle.ih_top.specs.{Commands.replay_inputs, JournalFiles.read_from};
 ghost use Rattle.ih_top.specs.JournalUses.{IsJournalUse, IsLinesFor, IsOutcomeFor};
 
-use crate::journal_heading::{begin_headed, given_of};
+use crate::inputs::two_names;
+use crate::journal_heading::heading_of;
 use crate::outcome::{JournalOutcome, headless, journal_outcome};
 use crate::replay::replay_lines;
 use crate::salvage::salvage_lines;
 use ih_desk::Given;
 use ih_frame::{Command, Outcome};
 use ih_inputs::{InputNames, Inputs};
+use ih_parfill::begin;
 use ih_words::{Replay, Start};
 use std::alloc::{AllocError, Global};
 use std::sync::Wait;
@@ -57,7 +59,7 @@ fn lines_outcome(
     }
 }
 
-// What a journal comes to.
+// What a journal comes to: its heading's search is begun, as the words say, and its lines are taken.
 fn found_in<R: Threads + Wait + Sync>(
     rt: &R,
     alloc: Global,
@@ -69,12 +71,17 @@ fn found_in<R: Threads + Wait + Sync>(
     requires { IsPlanOf inputs.inst.value.draft inputs.plan }
     ensures { IfOk result (IsOutcomeFor journal_use (start_call start.now) (read_from inputs bytes.now)) }
 {
-    let found = begin_headed(rt, alloc, start, inputs, bytes)?;
-    let Some(headed) = found else {
+    let Some((options, lines)) = heading_of(bytes) else {
         return Ok(headless());
     };
-    let given = given_of(&headed, start.freeze);
-    lines_outcome(alloc, journal_use, &given, headed.lines)
+    let begun = begin(rt, alloc, inputs, start.fill, options.hard, options.workers)?;
+    let given = Given {
+        inst: &*begun.inst,
+        start: &begun.start,
+        options,
+        freeze: start.freeze,
+    };
+    lines_outcome(alloc, journal_use, &given, lines)
 }
 
 // The bytes of a journal. A call that names one has them.
@@ -96,11 +103,8 @@ impl<'c, 'w> Command for Taking<'c, 'w> {
 
     fn names(&self) -> InputNames<'_> {
         InputNames {
-            instance: self.call.instance,
-            solution: self.call.start.file,
-            older: None,
             journal: Some(self.call.journal),
-            are_said: false,
+            ..two_names(self.call.instance, self.call.start.file)
         }
     }
 

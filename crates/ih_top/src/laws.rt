@@ -4,18 +4,18 @@
 ghost use Rattle.ih_top.specs.Laws.{ChainJournalsAreHeadless, ChainJournalsFit, ChainsAreRefused, ChainsAreToldApart};
 ghost use Rattle.ih_top.specs.Laws.{DemosShowTheSame, RoundJournalsFit, RoundsAreSalvaged, RoundsAreToldApart};
 ghost use Rattle.ih_top.specs.Laws.{SolvesAreToldApart};
-ghost use Rattle.ih_top.specs.Laws.{JournalsFit, SolvesReplayTheSame, SolvesWithNoneReplayTheSame, LoneRoundsAreAlike};
-ghost use Rattle.ih_top.specs.Laws.{LoneRoundsEndAlike, LoneSearchesAreAlike, LoneSearchesDoTheSame};
+ghost use Rattle.ih_top.specs.Laws.{JournalsFit, SolvesReplayTheSame, SolvesWithNoneReplayTheSame};
+ghost use Rattle.ih_top.specs.Laws.{LoneSearchesAreAlike, LoneSearchesDoTheSame};
 ghost use Rattle.ih_top.specs.Laws.{LoneSearchesEndAlike, RefusedLinesAreNotFull, RoundsAreRefused};
 ghost use Rattle.ih_top.specs.Laws.{WholeLinesAreSalvaged};
 ghost use Rattle.ih_inputs.specs.declared.reading.TheConstants.{MAX_FILE, MAX_JOURNAL};
-ghost use Rattle.ih_top.specs.{Chain.of_chains, Solve.of_moves};
+ghost use Rattle.ih_top.specs.{Searches.of_chains, Rounds.of_rounds, Searches.of_moves};
 ghost use Rattle.std.specs.Prelude.{ℕ, ◌≡◌};
 ghost use Rattle.ih_plan.specs.declared.limits.TheConstants.{MAX_HARD, MAX_HEAT};
 ghost use Rattle.ih_journal.specs.declared.settings.TheConstants.{MAX_ENTRIES, MAX_MOVES};
 ghost use Rattle.ih_plan.specs.declared.limits.TheConstants.{MAX_WORKERS};
 ghost use Rattle.ih_journal.specs.declared.settings.TheConstants.{MAX_RETRIES};
-ghost use Rattle.ih_words.specs.{declared.chain.TheConstants.MAX_LENGTH, declared.rounds.TheConstants.MAX_ROUNDS};
+ghost use Rattle.ih_words.specs.declared.plain.TheConstants.{MAX_LENGTH, MAX_ROUNDS};
 ghost use Rattle.ih_plan.specs.{declared.limits.TheConstants.MAX_FREEZE};
 
 use ih_cellbook::{journals_tell_searches_apart, legal_journals_are_short};
@@ -44,8 +44,8 @@ pub fn whole_lines_are_salvaged()
     taken_lines_are_of_legal_histories();
 }
 
-/// With one worker a search is a function of files and words: its history, what `solve` and `chain` write and say, the
-/// rounds of `rounds`, how these end where there is no fault and memory enough, and what `demo` shows.
+/// With one worker a search is a function of files and words: its history or its rounds, what `solve`, `chain` and `rounds`
+/// write and say, how these end where there is no fault and memory enough, and what `demo` shows.
 pub fn lone_searches_are_alike()
     ensures search { LoneSearchesAreAlike of_moves }
     ensures solve { LoneSearchesDoTheSame of_moves }
@@ -53,8 +53,9 @@ pub fn lone_searches_are_alike()
     ensures chains { (each : ℕ) → LoneSearchesAreAlike (of_chains each) }
     ensures chain { (each : ℕ) → LoneSearchesDoTheSame (of_chains each) }
     ensures chain_ends { (each : ℕ) → LoneSearchesEndAlike (of_chains each) }
-    ensures rounds { LoneRoundsAreAlike }
-    ensures rounds_end { LoneRoundsEndAlike }
+    ensures rounds { (count : ℕ) → LoneSearchesAreAlike (of_rounds count) }
+    ensures rounds_do { (count : ℕ) → LoneSearchesDoTheSame (of_rounds count) }
+    ensures rounds_end { (count : ℕ) → LoneSearchesEndAlike (of_rounds count) }
     ensures demo { DemosShowTheSame }
 {}
 

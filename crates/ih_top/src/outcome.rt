@@ -2,7 +2,7 @@
 
 ghost use Rattle.std.specs.Prelude.{◌≡◌, IfOk};
 ghost use Rattle.ih_frame.specs.Outcomes.{IsOwnStatus, outcome_of};
-ghost use Rattle.ih_top.specs.Outcomes.{journal_outcome};
+ghost use Rattle.ih_top.specs.Outputs.{journal_outcome};
 
 use crate::output::BestOutput;
 use crate::texts::{journal_refused_text, none_found_text};

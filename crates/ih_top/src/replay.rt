@@ -3,7 +3,8 @@
 ghost use Rattle.std.specs.Prelude.{IfOk};
 ghost use Rattle.ih_cellbook.specs.Keeping.{IsBase};
 ghost use Rattle.ih_desk.specs.Searching.{base_given};
-ghost use Rattle.ih_top.specs.Outcomes.{IsLinesOutcome};
+ghost use Rattle.ih_top.specs.JournalUses.{IsLinesFor};
+ghost use Rattle.ih_top.specs.declared.journals.JournalUse.TheVariants.{Replay as ForReplay};
 
 use crate::journal_lines::take_lines;
 use crate::laws::refused_lines_are_not_full;
@@ -20,7 +21,7 @@ pub fn replay_lines(
     bytes: &[u8],
 ) -> Result<JournalOutcome, AllocError>
     requires { IsBase (base_given given.now) }
-    ensures { IfOk result (IsLinesOutcome (base_given given.now) bytes.now) }
+    ensures { IfOk result (IsLinesFor ForReplay (base_given given.now) bytes.now) }
 {
     let mut replay = Replay::new(alloc, given.inst, given.start, &given.options, given.freeze)?;
     match take_lines(&mut replay, bytes) {

@@ -5,8 +5,8 @@ ghost use Rattle.ih_plan.specs.{BillOf.bill_of, Timetable.IsPlanOf};
 ghost use Rattle.ih_journal.specs.Settings.{IsLawful};
 ghost use Rattle.ih_cellbook.specs.Keeping.{IsBase};
 ghost use Rattle.ih_desk.specs.Searching.{base_given};
-ghost use Rattle.ih_top.specs.RoundTexts.{IsRoundSaid, FitsEnd, round_line, round_report};
-ghost use Rattle.ih_top.specs.Rounds.{IsFullFrom, IsRoundsOutput};
+ghost use Rattle.ih_top.specs.Rounds.{IsRoundSaid, FitsEnd, round_line, round_report};
+ghost use Rattle.ih_top.specs.{Outputs.IsOutput, Rounds.IsFullFrom, Rounds.of_rounds};
 
 use crate::output::{BestOutput, Output, seed_of, with_report};
 use ih_cellbook::accepted_prices_are_exact;
@@ -112,7 +112,7 @@ pub fn make_rounds_output<R: Threads + Wait + Sync, G: Gate>(
     requires base { IsBase (base_given given.now) }
     requires once { given.now.options.retries ≡ 0 }
     requires unfrozen { given.now.freeze ≡ 0 }
-    ensures { IfOk result (IsRoundsOutput (base_given given.entry.now) count) }
+    ensures { IfOk result (IsOutput (of_rounds count) (base_given given.entry.now)) }
 {
     // For the proof alone: the seed has 64 bits, and accepted prices are exact.
     let _seed = seed_of(&given.options);

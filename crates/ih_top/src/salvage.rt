@@ -3,7 +3,9 @@
 ghost use Rattle.std.specs.Prelude.{◌≡◌, ◌++◌, IfOk, string_bytes};
 ghost use Rattle.ih_cellbook.specs.Keeping.{IsBase};
 ghost use Rattle.ih_desk.specs.Searching.{base_given};
-ghost use Rattle.ih_top.specs.{Outcomes.AreLines, Texts.salvaged_line};
+ghost use Rattle.ih_top.specs.{JournalUses.IsLinesFor, Texts.salvaged_line};
+ghost use Rattle.ih_top.specs.declared.journals.JournalUse.TheVariants.{Salvage};
+ghost use Rattle.ih_top.specs.declared.outcome.JournalOutcome.TheVariants.{Taken};
 
 use crate::journal_lines::take_lines;
 use crate::laws::whole_lines_are_salvaged;
@@ -42,7 +44,7 @@ pub fn salvage_lines(
     bytes: &[u8],
 ) -> Result<Option<BestOutput>, AllocError>
     requires { IsBase (base_given given.now) }
-    ensures { IfOk result (AreLines (base_given given.now) bytes.now) }
+    ensures { IfOk result (λ best. IsLinesFor Salvage (base_given given.now) bytes.now (Taken best)) }
 {
     let mut replay = Replay::new(alloc, given.inst, given.start, &given.options, given.freeze)?;
     // Why no further line is taken doesn't count.

@@ -1,17 +1,14 @@
 //! The commands that search: what they come to. Of rounds that are all their journals, and the best of all.
 
-ghost use Rattle.std.specs.Prelude.{◌≡◌, IfOk};
+ghost use Rattle.std.specs.Prelude.{IfOk};
 ghost use Rattle.ih_plan.specs.Timetable.{IsPlanOf};
 ghost use Rattle.ih_journal.specs.Settings.{IsLawful};
 ghost use Rattle.ih_cellbook.specs.Keeping.{IsBase};
 ghost use Rattle.ih_desk.specs.Searching.{base_given};
 ghost use Rattle.ih_words.specs.Solve.{solve_call};
-ghost use Rattle.ih_shelf.specs.Outside.{IfTold, IsOnePutAtMost};
-ghost use Rattle.ih_inputs.specs.Reading.{ArePlans, files_of, given_of};
-ghost use Rattle.ih_answers.specs.Answers.{Answers, HasShelfCause};
-ghost use Rattle.ih_answers.specs.{Ends.Ends, Ends.HasCause, Ends.Received, Texts.ReceivedPart};
-ghost use Rattle.ih_frame.specs.{Ends.CommandEnds, Outcomes.IsOwnStatus, Outcomes.outcome_of};
-ghost use Rattle.ih_top.specs.{Inputs.solve_inputs, Outputs.base_from};
+ghost use Rattle.ih_inputs.specs.Reading.{ArePlans, given_of};
+ghost use Rattle.ih_frame.specs.Outcomes.{IsOwnStatus, outcome_of};
+ghost use Rattle.ih_top.specs.{Outputs.base_from};
 ghost use Rattle.ih_top.specs.Methods.{IsLawfulFor, IsMade, IsSearched};
 
 use crate::chain::output_of_run;
@@ -19,17 +16,15 @@ use crate::output::{Output, seed_of};
 use crate::rounds_output::make_rounds_output;
 use crate::solve::make_output;
 use crate::writer::search_outcome;
-use ih_answers::{Answer, Status, conclude, read_or_answer};
 use ih_chain::run_chains;
 use ih_desk::Given;
-use ih_frame::{Outcome, carry_out};
-use ih_inputs::{InputNames, Inputs};
+use ih_frame::Outcome;
+use ih_inputs::Inputs;
 use ih_journal::Options;
 use ih_parfill::begin;
-use ih_shelf::{Gate, Shelf, Sink};
+use ih_shelf::Gate;
 use ih_words::Solve;
 use std::alloc::{AllocError, Global};
-use std::rt::Files;
 use std::sync::Wait;
 use std::thread::Threads;
 
@@ -94,21 +89,8 @@ fn search_from<R: Threads + Wait + Sync, G: Gate>(
     make_by(rt, alloc, method, &given, gate)
 }
 
-// The files that the call reads.
-fn names_of<'a>(call: &Solve<'a>) -> InputNames<'a>
-    ensures { files_of result ≡ solve_inputs (solve_call call.now) }
-{
-    InputNames {
-        instance: call.instance,
-        solution: call.start.file,
-        older: None,
-        journal: None,
-        are_said: false,
-    }
-}
-
-// What the call comes to, by what its files give.
-fn searched<'a, R: Threads + Wait + Sync, G: Gate>(
+/// What the call comes to, by what its files give.
+pub fn searched<'a, R: Threads + Wait + Sync, G: Gate>(
     rt: &R,
     alloc: Global,
     method: Method,
@@ -125,53 +107,4 @@ fn searched<'a, R: Threads + Wait + Sync, G: Gate>(
 {
     let output = search_from(rt, alloc, method, call, inputs, gate)?;
     search_outcome(alloc, call, output)
-}
-
-// The call, but for the putting out of its text.
-fn search_of<R: Files + Threads + Wait + Sync, S: Shelf, G: Gate>(
-    rt: &R,
-    alloc: Global,
-    method: Method,
-    call: &Solve<'_>,
-    shelf: &mut S,
-    gate: &G,
-) -> Answer
-    requires lawful { IsLawful call.now.options }
-    requires method { IsLawfulFor method call.now.options call.now.start.freeze }
-    ensures ends { Answers (CommandEnds (IsSearched method (solve_call call.now)) (solve_inputs (solve_call call.now))
-        (S.names shelf.old) (S.names shelf.new)) result }
-    ensures cause { HasShelfCause S.Shelf shelf.old shelf.new result.status }
-{
-    match read_or_answer(rt, alloc, &names_of(call), shelf) {
-        Ok(inputs) => {
-            let made = searched(rt, alloc, method, call, inputs, gate);
-            carry_out(rt, alloc, made, shelf)
-        }
-        Err(answer) => answer,
-    }
-}
-
-/// Reads the instance and the start, searches, and writes the journal and the solution of the best: of rounds all their
-/// journals, and the best of all.
-pub fn search<R: Files + Print + Threads + Wait + Sync, S: Shelf, O: Sink, G: Gate>(
-    rt: &R,
-    alloc: Global,
-    method: Method,
-    call: &Solve<'_>,
-    shelf: &mut S,
-    out: &mut O,
-    gate: &G,
-) -> Status
-    requires lawful { IsLawful call.now.options }
-    requires method { IsLawfulFor method call.now.options call.now.start.freeze }
-    ensures ends { Ends (CommandEnds (IsSearched method (solve_call call.now)) (solve_inputs (solve_call call.now))
-        (S.names shelf.old) (S.names shelf.new)) (HasShelfCause S.Shelf shelf.old shelf.new)
-        (Received result (O.text out.old) (O.text out.new) (O.faults out.old) (O.faults out.new))
-        (ReceivedPart (O.text out.old) (O.text out.new) (O.lacks out.old) (O.lacks out.new)) result }
-    ensures once { IfTold IsOnePutAtMost (O.puts out.old) (O.puts out.new) }
-    ensures cause { HasCause (S.read_faults shelf.old) (S.read_faults shelf.new) (S.write_faults shelf.old)
-        (S.write_faults shelf.new) (O.faults out.old) (O.faults out.new) result }
-{
-    let answer = search_of(rt, alloc, method, call, shelf, gate);
-    conclude(rt, out, &answer)
 }

@@ -3,7 +3,7 @@
 ghost use Rattle.std.specs.Prelude.{IfOk};
 ghost use Rattle.ih_cellbook.specs.Keeping.{IsBase};
 ghost use Rattle.ih_desk.specs.Searching.{base_given};
-ghost use Rattle.ih_top.specs.{Outputs.IsOutput, Solve.of_moves};
+ghost use Rattle.ih_top.specs.{Outputs.IsOutput, Searches.of_moves};
 
 use crate::output::{Output, best_of, seed_of};
 use ih_cellbook::journal_text;

@@ -1,10 +1,9 @@
-use Rattle.std.proofs.Common.{subst}
-use Rattle.std.specs.Prelude.{◌≢◌}
+use Rattle.std.proofs.Common.{◌≡◌, subst}
 use Rattle.ih_answers.specs.Answers.{HasShelfCause}
 use Rattle.ih_answers.proofs.Saying.{has-cause}
 use Rattle.ih_words.specs.Generate.{gen_call}
 use Rattle.ih_words.specs.Replay.{replay_call}
-use Rattle.ih_words.specs.Solve.{SolveCall, solve_call}
+use Rattle.ih_words.specs.Solve.{solve_call}
 use Rattle.ih_words.specs.Words.{OutDiffers, command_call}
 use Rattle.ih_words.specs.declared.command.Command.{Command}
 use Rattle.ih_top.specs.declared.journals.JournalUse.TheVariants.{Replay, Salvage}
@@ -14,23 +13,20 @@ use Rattle.ih_top.proofs.JournalOutcomes.{journal-ended}
 use Rattle.ih_top.proofs.Methods.{searched-ended}
 use Rattle.ih_top.proofs.commands.perform.Goals as goal
 
+differs : {x y : Command} → x ≡ y → OutDiffers (command_call x) → OutDiffers (command_call y)
+differs = subst (λ (x : Command). OutDiffers (command_call x))
+
 pub returns-in-Solve-clause-ends : goal.returns-in-Solve-clause-ends
 returns-in-Solve-clause-ends g c =
-    let s : SolveCall = solve_call c.in-Solve.call in
-    let differ : s.out ≢ s.journal = subst (λ (x : Command). OutDiffers (command_call x)) c.in-Solve.is c.requires.differ in
-    rw c.in-Solve.is (searched-ended Moves s differ _ _ _ _ _ _ c.search.ensures.ends)
+    rw c.in-Solve.is (searched-ended Moves (solve_call c.in-Solve.call) (differs c.in-Solve.is c.requires.differ) _ _ _ _ _ _ c.perform_gated.ensures.ends)
 
 pub returns-in-Chain-clause-ends : goal.returns-in-Chain-clause-ends
 returns-in-Chain-clause-ends g c =
-    let s : SolveCall = solve_call c.in-Chain.chain.search in
-    let differ : s.out ≢ s.journal = subst (λ (x : Command). OutDiffers (command_call x)) c.in-Chain.is c.requires.differ in
-    rw c.in-Chain.is (searched-ended (Chains c.in-Chain.chain.length) s differ _ _ _ _ _ _ c.search-in-Chain.ensures.ends)
+    rw c.in-Chain.is (searched-ended (Chains c.in-Chain.chain.number) (solve_call c.in-Chain.chain.search) (differs c.in-Chain.is c.requires.differ) _ _ _ _ _ _ c.perform_gated-in-Chain.ensures.ends)
 
 pub returns-in-Rounds-clause-ends : goal.returns-in-Rounds-clause-ends
 returns-in-Rounds-clause-ends g c =
-    let s : SolveCall = solve_call c.in-Rounds.rounds.search in
-    let differ : s.out ≢ s.journal = subst (λ (x : Command). OutDiffers (command_call x)) c.in-Rounds.is c.requires.differ in
-    rw c.in-Rounds.is (searched-ended (Rounds c.in-Rounds.rounds.rounds) s differ _ _ _ _ _ _ c.search-in-Rounds.ensures.ends)
+    rw c.in-Rounds.is (searched-ended (Rounds c.in-Rounds.rounds.number) (solve_call c.in-Rounds.rounds.search) (differs c.in-Rounds.is c.requires.differ) _ _ _ _ _ _ c.perform_gated-in-Rounds.ensures.ends)
 
 pub returns-in-Replay-clause-ends : goal.returns-in-Replay-clause-ends
 returns-in-Replay-clause-ends g c = rw c.in-Replay.is (journal-ended Replay (replay_call c.in-Replay.call) _ _ _ _ _ _ c.perform.ensures.ends)
@@ -42,7 +38,7 @@ pub returns-in-Check-clause-ends : goal.returns-in-Check-clause-ends
 returns-in-Check-clause-ends g c = rw c.in-Check.is c.perform-in-Check.ensures.ends
 
 pub returns-in-Advise-clause-ends : goal.returns-in-Advise-clause-ends
-returns-in-Advise-clause-ends g c = rw c.in-Advise.is c.advise.ensures.ends
+returns-in-Advise-clause-ends g c = rw c.in-Advise.is c.perform_gated-in-Advise.ensures.ends
 
 pub returns-in-Gen-clause-ends : goal.returns-in-Gen-clause-ends
 returns-in-Gen-clause-ends g c =

@@ -1,5 +1,5 @@
 use Rattle.std.proofs.Common.{◌≡◌, Some, None}
-use Rattle.ih_top.specs.JournalHeading.{HasNoHeading}
+use Rattle.ih_top.specs.JournalFiles.{HasNoHeading}
 use Rattle.ih_top.proofs.FirstLines.{if-none, line-headless}
 use Rattle.ih_top.proofs.journal_heading.heading_of.Goals as goal
 

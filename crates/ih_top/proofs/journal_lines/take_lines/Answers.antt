@@ -3,7 +3,7 @@ use Rattle.ih_journal.specs.Legal.{AreLegal}
 use Rattle.ih_journal.specs.Tried.{tried, tries}
 use Rattle.ih_journal.proofs.Mapped.{map-more}
 use Rattle.ih_journal.proofs.Growth.{legal-more}
-use Rattle.ih_top.proofs.TakenLines.{begins-refused, begins-unended, joins-more, joins-none, legal-nothing, refused-end, refused-line}
+use Rattle.ih_top.proofs.Taken.{begins-refused, begins-unended, joins-more, joins-none, legal-nothing, refused-end, refused-line}
 use Rattle.ih_top.proofs.journal_lines.take_lines.Goals as goal
 
 pub loop-line-init : goal.loop-line-init

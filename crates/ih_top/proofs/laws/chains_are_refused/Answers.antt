@@ -1,4 +1,4 @@
-use Rattle.ih_top.proofs.ChainHeadings.{chains-fit, chains-headless, chains-refused}
+use Rattle.ih_top.proofs.Headings.{chains-fit, chains-headless, chains-refused}
 use Rattle.ih_top.proofs.laws.chains_are_refused.Goals as goal
 
 pub returns : goal.returns

@@ -1,4 +1,4 @@
-use Rattle.ih_top.proofs.RoundHeadings.{rounds-refused, rounds-salvaged, rounds-within}
+use Rattle.ih_top.proofs.Headings.{rounds-refused, rounds-salvaged, rounds-within}
 use Rattle.ih_top.proofs.laws.rounds_are_refused.Goals as goal
 
 pub returns : goal.returns

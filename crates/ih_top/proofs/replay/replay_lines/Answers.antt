@@ -6,7 +6,7 @@ use Rattle.ih_journal.specs.Legal.{AreLegal}
 use Rattle.ih_replay.specs.ReplayState.{ReplayState}
 use Rattle.ih_top.specs.Outputs.{HasBestOutput}
 use Rattle.ih_desk.specs.Searching.{base_given}
-use Rattle.ih_top.proofs.TakenHistories.{full-lines, refused-lines}
+use Rattle.ih_top.proofs.Taken.{full-lines, refused-lines}
 use Rattle.ih_top.proofs.replay.replay_lines.Goals as goal
 
 pub best_of-requires-clause-legal : goal.best_of-requires-clause-legal

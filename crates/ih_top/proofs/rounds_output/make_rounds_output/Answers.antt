@@ -1,7 +1,7 @@
 use Rattle.std.proofs.Common.{refl, None}
 use Rattle.ih_journal.specs.Base.{Base}
 use Rattle.ih_cellbook.specs.Keeping.{base_with}
-use Rattle.ih_top.proofs.RoundsOutputs.{fits-end, output-of, output-unfrozen}
+use Rattle.ih_top.proofs.FormOutputs.{fits-end, output-of, output-unfrozen}
 use Rattle.ih_top.proofs.rounds_output.make_rounds_output.Goals as goal
 
 pub best_of_rounds-requires : goal.best_of_rounds-requires

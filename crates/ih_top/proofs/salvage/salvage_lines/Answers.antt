@@ -7,7 +7,7 @@ use Rattle.ih_journal.specs.Legal.{AreLegal}
 use Rattle.ih_replay.specs.ReplayState.{ReplayState}
 use Rattle.ih_top.specs.Outputs.{HasBestOutput}
 use Rattle.ih_desk.specs.Searching.{base_given}
-use Rattle.ih_top.proofs.TakenHistories.{salvaged-best, salvaged-lines}
+use Rattle.ih_top.proofs.Taken.{salvaged-best, salvaged-lines}
 use Rattle.ih_top.proofs.salvage.salvage_lines.Goals as goal
 
 pub best_of-requires-clause-legal : goal.best_of-requires-clause-legal

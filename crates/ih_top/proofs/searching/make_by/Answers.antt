@@ -4,7 +4,7 @@ use Rattle.ih_desk.specs.Searching.{base_given}
 use Rattle.ih_top.specs.declared.searching.Method.{Method}
 use Rattle.ih_top.specs.declared.searching.Method.TheVariants.{Chains}
 use Rattle.ih_top.specs.Methods.{IsLawfulFor, IsMade}
-use Rattle.ih_top.proofs.ChainOutputs.{chain-result}
+use Rattle.ih_top.proofs.FormOutputs.{chain-result}
 use Rattle.ih_top.proofs.searching.make_by.Goals as goal
 
 pub returns-in_ok-run-in-Chains : goal.returns-in_ok-run-in-Chains

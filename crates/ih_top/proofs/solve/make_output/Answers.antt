@@ -30,13 +30,16 @@ returns g c =
     let is : tries c.entries-entries.result.now ≡ H = c.entries-entries.ensures.entries in
     record {
       history = c.entries-entries.result.now;
+      given = c.requires;
       seed = c.seed_of-seed.ensures.small;
-      full = subst (IsFull b 1) (sym is) c.in_ok-book.ensures.full;
-      sound = subst (IsSound b) (sym is) (subst (λ (d : Base). IsSound d H) c.in_ok-book.ensures.base (record {
-        given = c.entries-entries.ensures.base;
-        agrees = c.entries-entries.ensures.agrees;
-        exact = c.entries-entries.ensures.exact;
-      }));
+      made = record {
+        full = subst (IsFull b 1) (sym is) c.in_ok-book.ensures.full;
+        sound = subst (IsSound b) (sym is) (subst (λ (d : Base). IsSound d H) c.in_ok-book.ensures.base (record {
+          given = c.entries-entries.ensures.base;
+          agrees = c.entries-entries.ensures.agrees;
+          exact = c.entries-entries.ensures.exact;
+        }));
+      };
       journal = c.in_ok-journal.ensures;
       best = c.in_ok-best.ensures;
     }

@@ -1,18 +1,29 @@
--- Lines of a journal, taken one by one.
-use Rattle.std.proofs.Common.{◌≡◌, ◌∙◌, ℕ, ◌+◌, sym, ap, subst, inl, arith, List, [], ◌∷◌, ◌++◌, append_assoc, length}
+-- Lines of a journal that are taken one by one, and the histories that are taken from it.
+use Rattle.std.proofs.Common.{◌≡◌, ◌∙◌, ℕ, ◌+◌, sym, ap, subst, inl, arith, List, [], ◌∷◌, ◌++◌, append_assoc, length, ap₂, inr, Option}
 use Rattle.std.specs.Prelude.{Result, Ok, Err, IfErr}
 use Rattle.std.proofs.lemmas.List.{append-nil}
 use Rattle.ih_journal.specs.declared.entries.Entry.{Entry}
 use Rattle.ih_tables.specs.declared.journal_refusals.JournalRefusal.{JournalRefusal}
 use Rattle.ih_journal.specs.declared.settings.Options.{Options}
 use Rattle.ih_journal.specs.Base.{Base}
-use Rattle.ih_journal.specs.Tried.{tries}
-use Rattle.ih_journal.specs.Legal.{AreLegal}
+use Rattle.ih_journal.specs.Tried.{tries, Tried}
+use Rattle.ih_journal.specs.Legal.{AreLegal, IsFull}
 use Rattle.ih_journal.specs.Texts.{ended, line_text, lines_from}
 use Rattle.ih_journal.proofs.Growth.{legal-none}
 use Rattle.ih_replay.specs.Refusals.{IsNextLine, IsRefusedFor}
 use Rattle.ih_top.specs.JournalLines.{Begins, HasLine, HasNoLineFeed, IsRefusedAt, IsRestRefused}
 use Rattle.ih_top.proofs.FirstLines.{no-line-in, one-line}
+use Rattle.ih_tables.specs.Valid.{IsValid}
+use Rattle.ih_cellbook.specs.Keeping.{IsBase}
+use Rattle.ih_top.specs.declared.output.BestOutput.{BestOutput}
+use Rattle.ih_top.specs.Histories.{IsSound}
+use Rattle.ih_top.specs.Laws.{RefusedLinesAreNotFull}
+use Rattle.ih_top.specs.JournalFiles.{IsHeadedBy}
+use Rattle.ih_top.specs.JournalUses.{IsLinesFor}
+use Rattle.ih_top.specs.declared.journals.JournalUse.TheVariants.{Replay, Salvage}
+use Rattle.ih_top.specs.declared.outcome.JournalOutcome.TheVariants.{Refused, Taken}
+use Rattle.ih_top.specs.Outputs.{HasBestOutput, HasBestSaid, IsBestSaid}
+use Rattle.ih_top.specs.Texts.{done_text, salvaged_line, salvaged_text}
 
 -- the lines of one entry more
 pub lines-more : (o : Options) (k : ℕ) (H : List Entry) (e : Entry) → lines_from o k (H ++ e ∷ []) ≡ lines_from o k H ++ ended (line_text o (k + length H) e)
@@ -69,3 +80,51 @@ joins-none o H bytes none = ap (λ es. lines_from o 0 es ++ bytes) (sym none)
 
 pub legal-nothing : (b : Base) (H : List Entry) → H ≡ [] → AreLegal b 1 (tries H)
 legal-nothing b H none = subst (λ es. AreLegal b 1 (tries es)) (sym none) (legal-none b 1)
+
+-- a best that is said to be that of so many lines
+pub salvaged-best : (b : Base) (H : List Tried) (n : ℕ) (o s : BestOutput) → n ≡ length H → IsBestSaid done_text b H o → s.solution.items ≡ o.solution.items
+    → s.text.items ≡ salvaged_line n ++ o.text.items → IsBestSaid salvaged_text b H s
+salvaged-best b H n o s count best solution text = record {
+  place = best.place;
+  best = best.best;
+  solution = solution ∙ best.solution;
+  text = text ∙ ap₂ (λ k t. salvaged_line k ++ t) count best.text;
+}
+
+module _ (b c : Base) (same : b ≡ c) (bytes : List ℕ) (H : List Entry) where
+  pub full-lines : IsFull b 1 (tries H) → IsSound b (tries H) → bytes ≡ lines_from b.options 0 H
+      → (best : Option BestOutput) → HasBestOutput c (tries H) best → IsLinesFor Replay c bytes (Taken best)
+  unfolding IsLinesFor
+  full-lines full sound whole best output = λ s x headed. record {
+    base = c;
+    history = H;
+    taken_is = record {
+      headed = subst (IsHeadedBy s x c) (subst (λ (y : Base). bytes ≡ lines_from y.options 0 H) same whole) headed;
+      full = subst (λ (y : Base). IsFull y 1 (tries H)) same full;
+      sound = subst (λ (y : Base). IsSound y (tries H)) same sound;
+    };
+    output = output;
+  }
+
+  pub refused-lines : (e : JournalRefusal) → RefusedLinesAreNotFull → IsValid c.instance → IsBase c → IsRefusedAt b bytes H e
+      → IsLinesFor Replay c bytes (Refused e)
+  unfolding IsLinesFor
+  refused-lines e law valid base refused = λ s x headed.
+      let here = subst (λ (y : Base). IsRefusedAt y bytes H e) same refused in
+      inr (record { base = c; history = H; bytes = bytes; headed = headed; refused = here; none = law c bytes H e valid base here })
+
+  pub salvaged-lines : (rest : List ℕ) → Begins b bytes H rest → IsSound b (tries H)
+      → (best : Option BestOutput) → HasBestSaid salvaged_text c (tries H) best → IsLinesFor Salvage c bytes (Taken best)
+  unfolding IsLinesFor
+  salvaged-lines rest begins sound best output = λ s x headed. record {
+    base = c;
+    history = H;
+    taken_is = record {
+      bytes = bytes;
+      rest = rest;
+      headed = headed;
+      begins = subst (λ (y : Base). Begins y bytes H rest) same begins;
+      sound = subst (λ (y : Base). IsSound y (tries H)) same sound;
+    };
+    output = output;
+  }

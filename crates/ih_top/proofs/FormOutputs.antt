@@ -1,5 +1,5 @@
--- What a run of chains makes to be written and said.
-use Rattle.std.proofs.Common.{◌≡◌, ◌∙◌, ℕ, ◌<◌, ◌^◌, refl, sym, ap, ap₂, subst, arith, false, true, length, List, Option, Some, None}
+-- How chains and rounds end, and what is written and said of that.
+use Rattle.std.proofs.Common.{◌≡◌, ◌∙◌, ℕ, ◌<◌, ◌^◌, refl, sym, ap, ap₂, subst, arith, false, true, length, List, Option, Some, None, [], ◌++◌}
 use Rattle.std.specs.Prelude.{ℤ, Result, Ok, Err, IfOk}
 use Rattle.std.proofs.lemmas.List.{length-map}
 use Rattle.ih_plan.specs.BillOf.{bill_of}
@@ -12,7 +12,7 @@ use Rattle.ih_journal.specs.Best.{BestIs}
 use Rattle.ih_plan.specs.Frozen.{is_before}
 use Rattle.ih_journal.specs.Frozen.{AgreesBefore}
 use Rattle.ih_journal.specs.History.{plan_at}
-use Rattle.ih_cellbook.specs.Keeping.{base_with}
+use Rattle.ih_cellbook.specs.Keeping.{base_with, IsBase}
 use Rattle.ih_cellbook.proofs.Unfrozen.{none-before}
 use Rattle.ih_chain.specs.declared.entries.ChainEntry.{ChainEntry}
 use Rattle.ih_chain.specs.Entries.{chain_tried, chain_tries}
@@ -21,9 +21,17 @@ use Rattle.ih_chain.specs.Runs.{IsRunOf, ChainRunState, best_plan}
 use Rattle.ih_solution.specs.Solution.{solution}
 use Rattle.ih_top.specs.declared.output.BestOutput.{BestOutput}
 use Rattle.ih_top.specs.declared.output.Output.{Output}
-use Rattle.ih_top.specs.Chain.{IsBestOfRun, of_chains}
-use Rattle.ih_top.specs.Outputs.{HasBestOutput, IsOutput}
+use Rattle.ih_top.specs.Searches.{of_chains}
+use Rattle.ih_top.specs.Outputs.{IsBestOfRun, HasBestOutput, IsOutput, HasBestMade}
 use Rattle.ih_top.specs.Texts.{found_text}
+use Rattle.ih_journal.specs.Tried.{tries}
+use Rattle.ih_cellbook.specs.Laws.{AcceptedPricesAreExact}
+use Rattle.ih_rounds.specs.declared.running.RoundsEnd.{RoundsEnd}
+use Rattle.ih_rounds.specs.declared.running.RoundsEnd.TheVariants.{Found, NoneFound}
+use Rattle.ih_rounds.specs.Ends.{Ends, HaveRun, IsEnd}
+use Rattle.ih_rounds.specs.Rounds.{Round, base_in, journals}
+use Rattle.ih_rounds.specs.Answers.{Answers}
+use Rattle.ih_top.specs.Rounds.{FitsEnd, IsRoundSaid, round_report, HaveExactPrices, of_rounds}
 
 -- ---- nothing lies before day 0
 
@@ -74,9 +82,12 @@ chain-made I P o freeze each r out fits lawful seed free is journal best =
     let b : Base = base_with I P o 0 in
     subst (λ (n : ℕ). IsOutput (of_chains each) (base_with I P o n) out) (sym free) (record {
       history = r.entries;
+      given = record { start = fits; lawful = lawful };
       seed = seed;
-      full = is.full;
-      sound = record { given = record { start = fits; lawful = lawful }; agrees = run-agrees b r.entries refl; exact = is.exact };
+      made = record {
+        full = is.full;
+        sound = record { given = record { start = fits; lawful = lawful }; agrees = run-agrees b r.entries refl; exact = is.exact };
+      };
       journal = journal ∙ ap₂ (λ options n. chain_journal options n r.entries) is.options is.each;
       best = run-best b each r out.best is best;
     })
@@ -90,3 +101,42 @@ pub chain-result : {E : Type 0} (I : Draft) (P : Timetable) (o : Options) (freez
 chain-result I P o freeze each r (Ok out) fits lawful seed free is journal best =
     chain-made I P o freeze each r out fits lawful seed free is journal best
 chain-result I P o freeze each r (Err e) fits lawful seed free is journal best = tt
+
+pub fits-end : (b : Base) (rs : List Round) (end : RoundsEnd) → IsEnd b rs end → FitsEnd b.instance end
+fits-end b rs (Found q k count P) found = found.fits
+fits-end b rs NoneFound none = tt
+
+said-of : (count : ℕ) (b : Base) (rs : List Round) (end : RoundsEnd) (best : Option BestOutput) → IsEnd b rs end → IsRoundSaid b.instance end best
+    → HasBestMade (of_rounds count) b rs best
+said-of n b rs (Found q k count P) None found said = absurd said
+said-of n b rs (Found q k count P) (Some o) found said = record {
+  place = record { number = q; round = found.best.round; place = k };
+  best = record { best = found.best; round = refl };
+  solution = said.0 ∙ ap (solution b.instance) found.plan;
+  text = said.1 ∙ ap (λ n. round_report q k n b.instance.weights (bill_of b.instance P)) found.count_is
+      ∙ ap (λ Q. round_report q k (length found.best.round.history) b.instance.weights (bill_of b.instance Q)) found.plan;
+}
+said-of n b rs NoneFound None none said = none
+said-of n b rs NoneFound (Some o) none said = absurd said
+
+-- the accepted prices of rounds are exact
+exact-in : AcceptedPricesAreExact → (b : Base) (count : ℕ) (before after : Answers) (old new : List ℕ) (run : HaveRun b count before after old new)
+    → HaveExactPrices b run.rounds
+exact-in law b count before after old new run q s there =
+    law (base_in b q s) (tries s.history) (run.fits q s there) (λ k e here. ((run.legal q s there).full.legal k e here).entry)
+
+pub output-of : AcceptedPricesAreExact → (b : Base) (count : ℕ) (before after : Answers) (old new : List ℕ) (end : RoundsEnd) (o : Output) → IsBase b → b.options.seed < 2 ^ 64 → old ≡ []
+    → Ends b count before after old new end → IsRoundSaid b.instance end o.best → o.journal.items ≡ new → IsOutput (of_rounds count) b o
+output-of law b count before after old new end o given seed empty ends said whole = record {
+  history = ends.run.rounds;
+  given = given;
+  seed = seed;
+  made = record { count_is = ends.run.count_is; legal = ends.run.legal; exact = exact-in law b count before after old new ends.run };
+  journal = whole ∙ ends.run.written ∙ ap (λ t. t ++ journals b.options 0 ends.run.rounds) empty;
+  best = said-of count b ends.run.rounds end o.best ends.end_is said;
+}
+
+-- what was made with no freeze day is made where that is day 0
+pub output-unfrozen : (I : Draft) (P : Timetable) (o : Options) (freeze count : ℕ) (made : Output) → freeze ≡ 0
+    → IsOutput (of_rounds count) (base_with I P o 0) made → IsOutput (of_rounds count) (base_with I P o freeze) made
+output-unfrozen I P o freeze count made free is = subst (λ (n : ℕ). IsOutput (of_rounds count) (base_with I P o n) made) (sym free) is
