@@ -4,13 +4,13 @@ ghost use Rattle.ih_gen.specs.Generated.{each_day, numbered, age_groups_data, sh
 ghost use Rattle.ih_gen.specs.Members.{IsMade, fixed_data, minutes_data, named_data, sizes_data};
 
 use crate::members::with_member;
-use crate::names::{age_name, id_value, shift_name};
+use crate::names::{Made, age_name, id_value, shift_name};
 use serde_json::{Value, json};
-use std::alloc::{AllocError, Global};
+use std::alloc::Global;
 
 // The same minutes on each day.
 #[tactic(auto, using(crate::proofs::RowLemmas::listed_steps), unfolding(crate::specs::Generated::each_day))]
-fn each_day(alloc: Global, days: u32, minutes: u32) -> Result<Value, AllocError>
+fn each_day(alloc: Global, days: u32, minutes: u32) -> Made
     ensures { IsMade (each_day days minutes) result }
 {
     let mut values = Vec::new(alloc);
@@ -21,7 +21,7 @@ fn each_day(alloc: Global, days: u32, minutes: u32) -> Result<Value, AllocError>
 }
 
 // A thing with an id alone.
-fn named_value(alloc: Global, letter: &str, number: u32) -> Result<Value, AllocError>
+fn named_value(alloc: Global, letter: &str, number: u32) -> Made
     ensures { IsMade (named_data letter.now number) result }
 {
     let id = id_value(alloc, letter, number)?;
@@ -30,14 +30,7 @@ fn named_value(alloc: Global, letter: &str, number: u32) -> Result<Value, AllocE
 
 // The first `count` things of a letter, each with the same minutes on each day under a key.
 #[tactic(auto, using(crate::proofs::RowLemmas::listed_steps), unfolding(crate::specs::Generated::numbered))]
-fn with_minutes(
-    alloc: Global,
-    letter: &str,
-    key: &str,
-    minutes: u32,
-    days: u32,
-    count: u32,
-) -> Result<Value, AllocError>
+fn with_minutes(alloc: Global, letter: &str, key: &str, minutes: u32, days: u32, count: u32) -> Made
     ensures { IsMade (numbered (minutes_data letter.now key.now minutes days) count) result }
 {
     let mut values = Vec::new(alloc);
@@ -50,21 +43,21 @@ fn with_minutes(
 }
 
 // The names of the age groups.
-fn age_groups(alloc: Global) -> Result<Value, AllocError>
+fn age_groups(alloc: Global) -> Made
     ensures { IsMade age_groups_data result }
 {
     json!(in alloc; [age_name(0), age_name(1), age_name(2), age_name(3)])
 }
 
 // The names of the shift types.
-fn shift_types(alloc: Global) -> Result<Value, AllocError>
+fn shift_types(alloc: Global) -> Made
     ensures { IsMade shift_types_data result }
 {
     json!(in alloc; [shift_name(0), shift_name(1), shift_name(2)])
 }
 
 // The weights of the costs.
-fn weights(alloc: Global) -> Result<Value, AllocError>
+fn weights(alloc: Global) -> Made
     ensures { IsMade weights_data result }
 {
     json!(in alloc; {
@@ -80,14 +73,14 @@ fn weights(alloc: Global) -> Result<Value, AllocError>
 }
 
 // The number of days and of skill levels.
-fn sizes(alloc: Global, days: u32) -> Result<Value, AllocError>
+fn sizes(alloc: Global, days: u32) -> Made
     ensures { IsMade (sizes_data days) result }
 {
     json!(in alloc; {"days": days, "skill_levels": 3u32})
 }
 
 /// Days, names, operating theatres, surgeons and weights.
-pub fn fixed_value(alloc: Global, days: u32) -> Result<Value, AllocError>
+pub fn fixed_value(alloc: Global, days: u32) -> Made
     ensures { IsMade (fixed_data days) result }
 {
     // One part at a time, so that few values are held at once.

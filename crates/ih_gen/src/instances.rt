@@ -7,6 +7,7 @@ ghost use Rattle.ih_gen.specs.{Generated.generated_data, Generated.generated, Me
 
 use crate::fixed::fixed_value;
 use crate::members::with_member;
+use crate::names::Made;
 use crate::nurses::Nurses;
 use crate::occupants::Occupants;
 use crate::patients::Patients;
@@ -19,7 +20,7 @@ use std::alloc::{AllocError, Global};
 const DAYS: u32 = 28;
 
 // The whole instance as a JSON value.
-fn generated_value(alloc: Global, seed: u64) -> Result<Value, AllocError>
+fn generated_value(alloc: Global, seed: u64) -> Made
     ensures { IsMade (generated_data seed) result }
 {
     let mut picks = Picks::of(seed);

@@ -8,6 +8,9 @@ use itoa::Buffer;
 use serde_json::Value;
 use std::alloc::{AllocError, Global};
 
+/// What making a value gives: it fails only where memory runs out.
+pub type Made = Result<Value, AllocError>;
+
 /// The name of a gender, 0 or 1.
 pub fn gender_name(number: u32) -> &'static str
     ensures { result.now ≡ gender_name number }
@@ -42,7 +45,7 @@ pub fn shift_name(number: u32) -> &'static str
 }
 
 /// An id: a letter and a number.
-pub fn id_value(alloc: Global, letter: &str, number: u32) -> Result<Value, AllocError>
+pub fn id_value(alloc: Global, letter: &str, number: u32) -> Made
     ensures { IsMade (id_data letter.now number) result }
 {
     let mut buffer = Buffer::new();

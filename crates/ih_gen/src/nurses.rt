@@ -6,14 +6,14 @@ ghost use Rattle.ih_plan.specs.{Draws.state_after, Sums.which_below, Sums.count_
 ghost use Rattle.ih_gen.specs.Generated.{works, shift_data, worked_data, nurse_data, nurse_words};
 ghost use Rattle.ih_gen.specs.{Words.pick, Members.IsMade};
 
-use crate::names::{id_value, shift_name};
+use crate::names::{Made, id_value, shift_name};
 use crate::picks::Picks;
 use crate::rows::Makes;
 use serde_json::{Value, json};
 use std::alloc::{AllocError, Global};
 
 // A shift of a type on a day, with the maximum load.
-fn shift_value(alloc: Global, day: u32, turn: u32, load: u32) -> Result<Value, AllocError>
+fn shift_value(alloc: Global, day: u32, turn: u32, load: u32) -> Made
     ensures { IsMade (shift_data day turn load) result }
 {
     let shift = shift_name(turn);
@@ -54,12 +54,7 @@ impl Makes for Nurses {
     ghost words = { λ kind. nurse_words kind.days };
 
     #[tactic(auto, using(crate::proofs::Streams::stream_steps))]
-    fn make_item(
-        &self,
-        alloc: Global,
-        picks: &mut Picks,
-        number: u32,
-    ) -> Result<Value, AllocError> {
+    fn make_item(&self, alloc: Global, picks: &mut Picks, number: u32) -> Made {
         let skill = picks.pick(3);
         let shifts = worked_values(alloc, picks, self.days, number)?;
         let id = id_value(alloc, "n", number)?;

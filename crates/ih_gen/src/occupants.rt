@@ -6,20 +6,14 @@ ghost use Rattle.ih_gen.specs.Generated.{occupant_members, occupant_data, occupa
 ghost use Rattle.ih_gen.specs.Members.{IsMade};
 
 use crate::members::with_member;
-use crate::names::id_value;
+use crate::names::{Made, id_value};
 use crate::persons::{Needs, PersonPicks, person_value, pick_needs, pick_person};
 use crate::picks::Picks;
 use crate::rows::Makes;
-use serde_json::Value;
-use std::alloc::{AllocError, Global};
+use std::alloc::Global;
 
 // The occupant of the room of the same number, with these picks.
-fn picked_value(
-    alloc: Global,
-    number: u32,
-    picked: &PersonPicks,
-    needs: Needs,
-) -> Result<Value, AllocError>
+fn picked_value(alloc: Global, number: u32, picked: &PersonPicks, needs: Needs) -> Made
     ensures { IsMade (object
         (occupant_members number picked.now (map view needs.skills.items) (map view needs.workloads.items))) result }
 {
@@ -37,12 +31,7 @@ impl Makes for Occupants {
     ghost words = { λ _. occupant_words };
 
     #[tactic(auto, using(crate::proofs::Streams::stream_steps))]
-    fn make_item(
-        &self,
-        alloc: Global,
-        picks: &mut Picks,
-        number: u32,
-    ) -> Result<Value, AllocError> {
+    fn make_item(&self, alloc: Global, picks: &mut Picks, number: u32) -> Made {
         let picked = pick_person(picks, 5);
         let needs = pick_needs(alloc, picks, 3 * picked.length_of_stay)?;
         picked_value(alloc, number, &picked, needs)

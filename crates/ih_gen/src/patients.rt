@@ -7,12 +7,12 @@ ghost use Rattle.ih_gen.specs.Generated.{patient_picks, patient_members, patient
 ghost use Rattle.ih_gen.specs.Members.{IsMade};
 
 use crate::members::with_member;
-use crate::names::id_value;
+use crate::names::{Made, id_value};
 use crate::persons::{Needs, PersonPicks, person_value, pick_needs, pick_person};
 use crate::picks::Picks;
 use crate::rows::Makes;
 use serde_json::{Value, json};
-use std::alloc::{AllocError, Global};
+use std::alloc::Global;
 
 /// What is picked for a patient before the needs of the stay.
 #[derive(Clone, Copy)]
@@ -43,12 +43,7 @@ fn patient_picks(picks: &mut Picks) -> PatientPicks
 }
 
 // The patient with these picks, without a due day.
-fn picked_value(
-    alloc: Global,
-    patient: u32,
-    picked: &PatientPicks,
-    needs: Needs,
-) -> Result<Value, AllocError>
+fn picked_value(alloc: Global, patient: u32, picked: &PatientPicks, needs: Needs) -> Made
     ensures { IsMade (object
         (patient_members patient picked.now None (map view needs.skills.items) (map view needs.workloads.items)))
         result }
@@ -78,12 +73,7 @@ impl Makes for Patients {
     ghost words = { λ _. patient_words };
 
     #[tactic(auto, using(crate::proofs::Streams::stream_steps))]
-    fn make_item(
-        &self,
-        alloc: Global,
-        picks: &mut Picks,
-        patient: u32,
-    ) -> Result<Value, AllocError> {
+    fn make_item(&self, alloc: Global, picks: &mut Picks, patient: u32) -> Made {
         let picked = patient_picks(picks);
         let needs = pick_needs(alloc, picks, 3 * picked.person.length_of_stay)?;
         let value = picked_value(alloc, patient, &picked, needs)?;

@@ -6,7 +6,7 @@ ghost use Rattle.ih_plan.specs.Draws.{state_after};
 ghost use Rattle.ih_gen.specs.Generated.{person_picks, workloads, skills};
 ghost use Rattle.ih_gen.specs.Members.{IsMade, person_members};
 
-use crate::names::{age_name, gender_name, id_value};
+use crate::names::{Made, age_name, gender_name, id_value};
 use crate::picks::Picks;
 use serde_json::{Value, json};
 use std::alloc::{AllocError, Global};
@@ -65,7 +65,7 @@ pub fn person_value(
     number: u32,
     picked: &PersonPicks,
     needs: Needs,
-) -> Result<Value, AllocError>
+) -> Made
     ensures { IsMade
         (object (person_members letter.now number picked.now
         (map view needs.skills.items) (map view needs.workloads.items))) result }

@@ -5,6 +5,7 @@ ghost use Rattle.serde_json.specs.{Data.Data, View.view};
 ghost use Rattle.ih_plan.specs.Draws.{state_after};
 ghost use Rattle.ih_gen.specs.{Words.begins, Words.in_a_row, Members.IsMade};
 
+use crate::names::Made;
 use crate::picks::Picks;
 use serde_json::Value;
 use std::alloc::{AllocError, Global};
@@ -17,7 +18,7 @@ pub trait Makes {
     // How many of these words it takes.
     ghost words: { Self → ℕ → List ℕ → ℕ };
 
-    fn make_item(&self, alloc: Global, picks: &mut Picks, number: u32) -> Result<Value, AllocError>
+    fn make_item(&self, alloc: Global, picks: &mut Picks, number: u32) -> Made
         ensures value { IsMade (thing self.now number picks.old) result }
         ensures rest { OnOk result (picks.new ≡ state_after (words self.now number picks.old) picks.old) };
 }

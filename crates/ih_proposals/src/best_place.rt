@@ -59,22 +59,6 @@ fn rough_cost(here: &Situation<'_>, stay: NewStay) -> i64
         .saturating_add(weights[2].saturating_mul(i64::from(nurses)))
 }
 
-// A placement on a day of the patient's window, by its number there.
-fn place_on(
-    here: &Situation<'_>,
-    words: &mut RandomWords,
-    patient: PatientNo,
-    day_no: u32,
-    attempt: &Chain,
-) -> Option<Placement>
-    requires patient { patient.0 < patient_count here.now.inst.now.draft }
-    requires moves { AreMoves here.now.inst.now.draft attempt.now }
-    ensures { IfSome result (IsPlacement here.now.inst.now.draft) }
-{
-    let day = day_of_window(here.inst, patient, day_no)?;
-    find_place_on(here, words, patient, day, attempt)
-}
-
 /// The cheapest of a few placements of the patient: on each of four days in a row the first room that fits, beside
 /// those who are there once the attempt is made, which doesn't place the patient yet.
 pub fn cheapest_place(
@@ -91,11 +75,13 @@ pub fn cheapest_place(
     let mut best = None;
     let mut least = i64::MAX;
     for i in 0..DAYS {
-        if let Some(at) = place_on(here, words, patient, first.saturating_add(i), attempt) {
-            let cost = rough_cost(here, NewStay { patient, at });
-            if cost < least {
-                least = cost;
-                best = Some(at);
+        if let Some(day) = day_of_window(here.inst, patient, first.saturating_add(i)) {
+            if let Some(at) = find_place_on(here, words, patient, day, attempt) {
+                let cost = rough_cost(here, NewStay { patient, at });
+                if cost < least {
+                    least = cost;
+                    best = Some(at);
+                }
             }
         }
     }

@@ -45,23 +45,6 @@ pub fn withdrawn(inst: &Instance, mv: Move) -> Option<PatientNo>
     }
 }
 
-// Another placement of the patient, on one of two days.
-fn find_twice(
-    here: &Situation<'_>,
-    words: &mut RandomWords,
-    patient: PatientNo,
-    attempt: &Chain,
-) -> Option<Placement>
-    requires patient { patient.0 < patient_count here.now.inst.now.draft }
-    requires moves { AreMoves here.now.inst.now.draft attempt.now }
-    ensures { IfSome result (IsPlacement here.now.inst.now.draft) }
-{
-    match find_place(here, words, patient, attempt) {
-        Some(at) => Some(at),
-        None => find_place(here, words, patient, attempt),
-    }
-}
-
 // Gives each patient who was withdrawn another place. Who has none stays out; false where that is a mandatory patient.
 fn resettle(here: &Situation<'_>, words: &mut RandomWords, attempt: &mut Chain) -> bool
     requires { AreMoves here.now.inst.now.draft attempt.old }
@@ -72,7 +55,7 @@ fn resettle(here: &Situation<'_>, words: &mut RandomWords, attempt: &mut Chain) 
             return true;
         }
         if let Some(q) = withdrawn(here.inst, attempt.at(here.inst, i)) {
-            match find_twice(here, words, q, attempt) {
+            match find_place(here, words, q, attempt, 2) {
                 Some(at) => attempt.add(here.inst, Move::Place(q, at)),
                 None => {
                     if here.inst.patient(q).mandatory {

@@ -36,19 +36,26 @@ pub fn find_place_on(
     Some(Placement { day, room, theatre })
 }
 
-/// Another placement of the patient, by random words: on one of the days of its window.
+/// Another placement of the patient, by random words: on the first of so many days of its window that has one.
 pub fn find_place(
     here: &Situation<'_>,
     words: &mut RandomWords,
     patient: PatientNo,
     attempt: &Chain,
+    tries: u32,
 ) -> Option<Placement>
     requires patient { patient.0 < patient_count here.now.inst.now.draft }
     requires moves { AreMoves here.now.inst.now.draft attempt.now }
     ensures { IfSome result (IsPlacement here.now.inst.now.draft) }
 {
-    let day = draw_day(here.inst, words, patient)?;
-    find_place_on(here, words, patient, day, attempt)
+    for _ in 0..tries {
+        if let Some(day) = draw_day(here.inst, words, patient) {
+            if let Some(at) = find_place_on(here, words, patient, day, attempt) {
+                return Some(at);
+            }
+        }
+    }
+    None
 }
 
 /// A move: a patient, by a random word, to another placement, beside those who are there once the attempt is made.
@@ -57,6 +64,6 @@ pub fn place(here: &Situation<'_>, words: &mut RandomWords, attempt: &Chain) -> 
     ensures { IfSome result (IsMoveOf here.now.inst.now.draft) }
 {
     let patient = draw_patient(here.inst, words)?;
-    let at = find_place(here, words, patient, attempt)?;
+    let at = find_place(here, words, patient, attempt, 1)?;
     Some(Move::Place(patient, at))
 }
