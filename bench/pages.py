@@ -1,8 +1,9 @@
 """Timetables to look at, and pages read back.
   pages.py plan INSTANCE SOLUTION    a plain timetable: each patient on the first day of the window in the rooms in turn
   pages.py greatest INSTANCE         an instance of the greatest sizes
-  pages.py read INSTANCE PAGE        reads the page's structure back, and prints what it has"""
-import html.parser, json, random, sys
+  pages.py read INSTANCE SOLUTION PAGE [OLDER]    compares the page's data with a plain program's"""
+import json, random, sys
+import board
 
 
 def greatest():
@@ -54,77 +55,26 @@ def plan(inst):
     return {"patients": patients, "nurses": nurses}
 
 
-class Page(html.parser.HTMLParser):
-    """What a page has: its tags, the ids of elements, where links lead, the rows of the summary, and the lists of what
-    is wrong, each with the words of its items."""
-    def __init__(self):
-        super().__init__(convert_charrefs=True)
-        self.tags, self.ids, self.links, self.rows, self.text = {}, [], [], [], []
-        self.inside, self.lists, self.list, self.words = None, {}, None, None
-
-    def handle_starttag(self, tag, attrs):
-        self.tags[tag] = self.tags.get(tag, 0) + 1
-        given = dict(attrs)
-        if "id" in given:
-            self.ids.append(given["id"])
-        if tag == "a":
-            self.links.append(given["href"])
-        if tag == "details":
-            self.list = self.lists[given["id"]] = []
-        if tag == "li" and self.list is not None:
-            self.words = self.list
-            self.words.append("")
-        if tag == "table":
-            self.inside = given.get("class")
-        if tag == "tr" and self.inside == "s":
-            self.rows.append([])
-        if tag in ("td", "th") and self.inside == "s":
-            self.rows[-1].append("")
-
-    def handle_endtag(self, tag):
-        if tag == "table":
-            self.inside = None
-        if tag == "details":
-            self.list = self.words = None
-
-    def handle_data(self, data):
-        self.text.append(data)
-        if self.words:
-            self.words[-1] += data
-        if self.inside == "s" and self.rows and self.rows[-1]:
-            self.rows[-1][-1] += data.strip()
+def data_in(text):
+    """The data that stands in a page."""
+    begin, end = '<script type="application/json" id="data">', "</script>"
+    assert text.count(begin) == 1, "the data stands once"
+    written = text.split(begin)[1].split(end)[0]
+    assert not set(written) & set("<>&\u2028\u2029"), "a sign isn't escaped"
+    return json.loads(written)
 
 
-def read(inst, text):
-    page = Page()
-    page.feed(text)
-    page.close()
-    persons = len(inst["patients"]) + len(inst["occupants"])
-    counts = {i: 0 for i in range(persons)}
-    for name in page.ids:
-        if name[0] == "p" and name[1:].isdigit():
-            counts[int(name[1:])] += 1
-    assert all(n == 1 for n in counts.values()), "a person's row is missing or stands twice"
-    assert len(set(page.ids)) == len(page.ids), "an id stands twice"
-    places = set(page.ids)
-    lost = sorted({link for link in page.links if link[1:] not in places})
-    assert not lost, "links lead nowhere: %s" % lost[:5]
-    lines = [row for row in page.rows if row and row[0][:1] in "VS" and row[0][1:].isdigit()]
-    assert [row[0] for row in lines] == ["V%d" % i for i in range(1, 10)] + ["S%d" % i for i in range(1, 9)], lines
-    numbers = {row[0]: int(row[3]) for row in lines}
-    assert list(page.lists) == [name for name in numbers if numbers[name]], "a list is missing, or has nothing"
-    for name, items in page.lists.items():
-        said = [item.strip().rpartition(": ")[2].split(" ")[0] for item in items]
-        amounts = [int(word) if word.isdigit() else 1 for word in said]
-        assert sum(amounts) == numbers[name], "the amounts of %s don't sum to its number" % name
-        assert amounts == sorted(amounts, reverse=True), "the list of %s doesn't fall" % name
-    known = {"html", "meta", "title", "style", "main", "h1", "h2", "h3", "p", "table", "thead", "tr", "th", "td", "div", "a", "i",
-             "bdi", "details", "summary", "ul", "li", "b", "br", "section"}
-    assert set(page.tags) <= known, set(page.tags) - known
-    print("persons %d, links %d, tags %d, items of lists %d" % (persons, len(page.links), sum(page.tags.values()),
-                                                                sum(len(items) for items in page.lists.values())))
-    for row in lines:
-        print("  " + "  ".join(row))
+def read(instance, solution, page, older=None):
+    """Compares a page's data with what a plain program finds in the files."""
+    with open(page, encoding="utf-8") as file:
+        found = data_in(file.read())
+    wanted = board.data(instance, solution, since=older)
+    wanted["heading"], wanted["first"] = found["heading"], found["first"]
+    for key in wanted:
+        assert found[key] == wanted[key], "%s differs" % key
+    print("rooms %d, persons %d, findings %d, cost %d" % (
+        len(wanted["care"]), sum(map(len, wanted["instance"]["persons"].values())),
+        sum(len(found) for lists in wanted["findings"].values() for found in lists), wanted["bill"]["cost"]))
 
 
 if __name__ == "__main__":
@@ -133,4 +83,4 @@ if __name__ == "__main__":
     elif sys.argv[1] == "greatest":
         json.dump(greatest(), open(sys.argv[2], "w"))
     else:
-        read(json.load(open(sys.argv[2])), open(sys.argv[3]).read())
+        read(*sys.argv[2:6])

@@ -1,4 +1,4 @@
--- Pieces of a text that are put one behind the other, also by a loop.
+-- Pieces of a text that a loop puts one behind the other.
 use Rattle.std.proofs.Common.{append_assoc}
 use Rattle.std.proofs.lemmas.List.{append-nil}
 use Rattle.ih_validate.proofs.Lines.{line_steps}

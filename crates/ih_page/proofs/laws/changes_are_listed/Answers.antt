@@ -1,4 +1,4 @@
-use Rattle.ih_page.proofs.ChangedPatients.{changes-listed}
+use Rattle.ih_page.proofs.ChangeLaws.{changes-listed}
 use Rattle.ih_page.proofs.laws.changes_are_listed.Goals as goal
 
 pub returns : goal.returns

@@ -1,7 +1,0 @@
-use Rattle.std.proofs.Common.{◌≡◌, ◌++◌}
-use Rattle.ih_validate.specs.Report.{lines_below}
-use Rattle.ih_page.specs.Nursing.{shift_head}
-use Rattle.ih_page.proofs.nursing.put_shift_heads.Given as goal
-
-abbrev pub invariant-loop-k : goal.invariant-loop-k
-invariant-loop-k l = l.out.items ≡ l.initial.out.items ++ lines_below l.k (shift_head l.shown.inst.now.draft)

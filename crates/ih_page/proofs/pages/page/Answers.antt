@@ -1,0 +1,7 @@
+use Rattle.std.proofs.Common.{◌∙◌, ap}
+use Rattle.ih_page.specs.Page.{in_template, page_of}
+use Rattle.ih_page.proofs.pages.page.Goals as goal
+
+pub returns : goal.returns
+unfolding page_of
+returns c = (rw c.new-out.ensures.items at c.in_ok-put_page.ensures) ∙ ap in_template (c.as_slice.ensures.value ∙ c.in_ok-text.ensures)

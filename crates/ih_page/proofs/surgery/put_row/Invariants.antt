@@ -1,7 +1,0 @@
-use Rattle.std.proofs.Common.{◌≡◌, ◌++◌}
-use Rattle.ih_validate.specs.Report.{lines_below}
-use Rattle.ih_page.specs.Surgery.{surgery_td}
-use Rattle.ih_page.proofs.surgery.put_row.Given as goal
-
-abbrev pub invariant-loop-d : goal.invariant-loop-d
-invariant-loop-d l = l.out.items ≡ l.initial.out.items ++ lines_below l.d (surgery_td l.shown.inst.now.draft l.shown.plan.now l.resource)
