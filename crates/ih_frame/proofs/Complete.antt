@@ -127,8 +127,8 @@ pub steps-answered : {X : Type 0} (steps_to : X → OutcomeState → X → Type 
     → StepsEnds steps_to ends_as count x old new status text → answers status
 steps-answered {X} steps_to ends_as count x old new answers steps ends memory status text calm e = by_end e.ends
   where
-    by_end : EndsFrom steps_to ends_as e.left e.taken.now e.mid new status e.rest → answers status
+    by_end : EndsFrom steps_to ends_as e.taken.now e.mid new status e.rest → answers status
     by_end (inl (kept, is, said)) = subst answers (sym is) memory
-    by_end (inr (inl (more, apart, (o, z, step, left)))) =
+    by_end (inr (inl (apart, (o, z, step, left)))) =
         left-status answers memory o e.mid new status e.rest calm (steps e.taken.now o z step) left
-    by_end (inr (inr (none, (o, comes, left)))) = left-status answers memory o e.mid new status e.rest calm (ends e.taken.now o comes) left
+    by_end (inr (inr (o, comes, left))) = left-status answers memory o e.mid new status e.rest calm (ends e.taken.now o comes) left

@@ -1,5 +1,5 @@
 -- From step to step of a call: what is written and told so far, and where it may end.
-use Rattle.std.proofs.Common.{◌≡◌, ℕ, ◌+◌, ◌<◌, ◌≤◌, refl, sym, subst, arith, inl, inr, List, [], ◌∷◌, ◌++◌, ◌-◌, length, append_assoc, append-nil, Option, Some, None, Result, Ok, Err}
+use Rattle.std.proofs.Common.{◌≡◌, ℕ, ◌+◌, ◌<◌, ◌≤◌, refl, sym, subst, arith, inl, inr, List, [], ◌∷◌, ◌++◌, length, append_assoc, append-nil, Option, Some, None, Result, Ok, Err}
 use Rattle.std.specs.Prelude.{◌≢◌, ◌⊎◌, IfOk}
 use Rattle.ih_shelf.specs.Outside.{IfTold, IsAppended, IsOnePutAtMost, Names}
 use Rattle.ih_answers.specs.declared.status.Status.{Status}
@@ -100,7 +100,7 @@ underway-begins steps_to x files said = record {
 }
 
 module _ {X : Type 0} (steps_to : X → OutcomeState → X → Type 0) (ends_as : X → OutcomeState → Type 0) (x y : X) (count i left : ℕ) (old mid new : Option Names)
-    (said now : Option (List ℕ)) (u : Underway steps_to x y i old mid said now) (all : i + left ≡ count) where
+    (said now : Option (List ℕ)) (u : Underway steps_to x y i old mid said now) (all : i + left ≤ count) where
   -- the steps with the next one
   abbrev taken-next : (o : OutcomeState) (z : X) → steps_to y o z → IfTold (AreWritten o.writes) mid new → AreTaken steps_to x old new
   taken-next o z step wrote = record {
@@ -125,15 +125,14 @@ module _ {X : Type 0} (steps_to : X → OutcomeState → X → Type 0) (ends_as 
   abbrev Behind : Status → List ℕ → Type 0
   Behind status rest = StepsEnds steps_to ends_as count x old new status (told u.taken.steps ++ rest)
 
-  behind : (status : Status) (rest : List ℕ) → EndsFrom steps_to ends_as left y mid new status rest → Behind status rest
+  behind : (status : Status) (rest : List ℕ) → EndsFrom steps_to ends_as y mid new status rest → Behind status rest
   behind status rest h = record {
     mid = mid;
     taken = u.taken;
-    left = left;
-    all = let before = u.count in omega (arith, before, all);
+    few = let before = u.count in omega (arith, before, all);
     rest = rest;
     said = refl;
-    ends = subst (λ (w : X). EndsFrom steps_to ends_as left w mid new status rest) (sym u.is) h;
+    ends = subst (λ (w : X). EndsFrom steps_to ends_as w mid new status rest) (sym u.is) h;
   }
 
   -- memory ran out as the text of the next step was put out, which was written before
@@ -141,20 +140,19 @@ module _ {X : Type 0} (steps_to : X → OutcomeState → X → Type 0) (ends_as 
   unheard o z step more wrote = record {
     mid = new;
     taken = taken-next o z step wrote;
-    left = left - 1;
-    all = let before = u.count in omega (arith, before, all, more);
+    few = let before = u.count in omega (arith, before, all, more);
     rest = memory_text;
     said = sym (append_assoc (told u.taken.steps) o.text memory_text);
     ends = inl (told-same new new refl, refl, refl);
   }
 
   module _ {E : Type 0} (made : Result Outcome E) where
-    stop-undone : (z : X) → IfOk made (λ o. steps_to y (outcome_of o) z) → 0 < left → (status : Status) → status ≢ Done → (rest : List ℕ)
+    stop-undone : (z : X) → IfOk made (λ o. steps_to y (outcome_of o) z) → (status : Status) → status ≢ Done → (rest : List ℕ)
         → MadeEnds made mid new status rest → Behind status rest
-    stop-undone z comes more status apart rest h = by_made made comes h
+    stop-undone z comes status apart rest h = by_made made comes h
       where
         by_made : (m : Result Outcome E) → IfOk m (λ o. steps_to y (outcome_of o) z) → MadeEnds m mid new status rest → Behind status rest
-        by_made (Ok o) comes h = behind status rest (inr (inl (more, apart, (outcome_of o, z, comes, h))))
+        by_made (Ok o) comes h = behind status rest (inr (inl (apart, (outcome_of o, z, comes, h))))
         by_made (Err e) comes h = behind status rest (inl h)
 
     stop-unheard : (z : X) → IfOk made (λ o. steps_to y (outcome_of o) z) → 0 < left → (rest : List ℕ) → MadeEnds made mid new Done rest
@@ -168,12 +166,12 @@ module _ {X : Type 0} (steps_to : X → OutcomeState → X → Type 0) (ends_as 
         by_made (Ok o) comes (inr stopped) = absurd stopped
         by_made (Err e) comes (kept, is, memory) = absurd (let clash : Done ≡ OutOfMemory = is in cc)
 
-    end-behind : IfOk made (λ o. ends_as y (outcome_of o)) → left ≡ 0 → (status : Status) (rest : List ℕ) → MadeEnds made mid new status rest
+    end-behind : IfOk made (λ o. ends_as y (outcome_of o)) → (status : Status) (rest : List ℕ) → MadeEnds made mid new status rest
         → Behind status rest
-    end-behind comes none status rest h = by_made made comes h
+    end-behind comes status rest h = by_made made comes h
       where
         by_made : (m : Result Outcome E) → IfOk m (λ o. ends_as y (outcome_of o)) → MadeEnds m mid new status rest → Behind status rest
-        by_made (Ok o) comes h = behind status rest (inr (inr (none, (outcome_of o, comes, h))))
+        by_made (Ok o) comes h = behind status rest (inr (inr (outcome_of o, comes, h)))
         by_made (Err e) comes h = behind status rest (inl h)
 
     -- the counts rose from the steps before on
@@ -205,9 +203,9 @@ module _ {X : Type 0} (steps_to : X → OutcomeState → X → Type 0) (ends_as 
           → Ends (MadeEnds made mid new) cause received part status → Whole
       stops z comes more apart h =
           later Behind (λ s t e. e)
-          (undone-ends (MadeEnds made mid new) Behind cause received now after mid-lacks lacks' tt (stop-undone z comes more) (stop-unheard z comes more) status
+          (undone-ends (MadeEnds made mid new) Behind cause received now after mid-lacks lacks' tt (stop-undone z comes) (stop-unheard z comes more) status
           apart h)
 
       -- all steps are over
-      pub ends : IfOk made (λ o. ends_as y (outcome_of o)) → left ≡ 0 → Ends (MadeEnds made mid new) cause received part status → Whole
-      ends comes none = later (MadeEnds made mid new) (end-behind comes none)
+      pub ends : IfOk made (λ o. ends_as y (outcome_of o)) → Ends (MadeEnds made mid new) cause received part status → Whole
+      ends comes = later (MadeEnds made mid new) (end-behind comes)

@@ -1,5 +1,5 @@
 -- How a call ends that goes on in steps: each comes to an outcome, as a command does.
-use Rattle.std.specs.Prelude.{◌≡◌, ◌≢◌, ℕ, ◌+◌, ◌<◌, ◌≤◌, ◌⊎◌, List, [], ◌∷◌, ◌++◌, length, Option}
+use Rattle.std.specs.Prelude.{◌≡◌, ◌≢◌, ℕ, ◌+◌, ◌≤◌, ◌⊎◌, List, [], ◌∷◌, ◌++◌, length, Option}
 use Rattle.ih_shelf.specs.Outside.{IfTold, Names}
 use Rattle.ih_answers.specs.declared.status.Status.{Status}
 use Rattle.ih_answers.specs.declared.status.Status.TheVariants.{Done, OutOfMemory}
@@ -32,28 +32,26 @@ pub record AreTaken {X : Type 0} (steps_to : X → OutcomeState → X → Type 0
     pub are : AreSteps steps_to x steps now
     pub written : IfTold (AreAllWritten steps) old new
 
--- how a call goes on to its end that has come to x, with so many steps left
-abbrev pub EndsFrom : {X : Type 0} → (X → OutcomeState → X → Type 0) → (X → OutcomeState → Type 0) → ℕ → X
-    → Option Names → Option Names → Status → List ℕ → Type 0
-EndsFrom {X} steps_to ends_as left x old new status text =
+-- how a call goes on to its end that has come to x
+abbrev pub EndsFrom : {X : Type 0} → (X → OutcomeState → X → Type 0) → (X → OutcomeState → Type 0) → X → Option Names
+    → Option Names → Status → List ℕ → Type 0
+EndsFrom {X} steps_to ends_as x old new status text =
     -- memory ran out before the next outcome was made
     (IfTold Unchanged old new × (status ≡ OutOfMemory) × (text ≡ memory_text))
     -- a further step can't be done, or can't be said
-    ⊎ ((0 < left) × (status ≢ Done)
-    × ((o : OutcomeState) × (y : X) × steps_to x o y × IsLeft o old new status text))
+    ⊎ ((status ≢ Done) × ((o : OutcomeState) × (y : X) × steps_to x o y × IsLeft o old new status text))
     -- all steps are over, and this is what the call comes to
-    ⊎ ((left ≡ 0) × ((o : OutcomeState) × ends_as x o × IsLeft o old new status text))
+    ⊎ ((o : OutcomeState) × ends_as x o × IsLeft o old new status text)
 
--- How a call ends that goes on from x in so many steps: some are taken and told, and then it ends.
+-- How a call ends that goes on from x in at most so many steps: some are taken and told, and then it ends.
 pub record StepsEnds {X : Type 0} (steps_to : X → OutcomeState → X → Type 0) (ends_as : X → OutcomeState → Type 0)
     (count : ℕ) (x : X) (old new : Option Names) (status : Status) (text : List ℕ) : Type 0 where
   pub mid : Option Names
   pub taken : AreTaken steps_to x old mid
-  pub left : ℕ
-  pub all : length taken.steps + left ≡ count
+  pub few : length taken.steps ≤ count
   pub rest : List ℕ
   pub said : text ≡ told taken.steps ++ rest
-  pub ends : EndsFrom steps_to ends_as left taken.now mid new status rest
+  pub ends : EndsFrom steps_to ends_as taken.now mid new status rest
 
 -- How a call ends that reads its files before it goes on in steps: they can't be had, or memory ran out; or it goes on
 -- from where it begins.

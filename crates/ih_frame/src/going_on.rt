@@ -1,6 +1,6 @@
 //! A call that goes on in steps, from the first to its status.
 
-ghost use Rattle.std.specs.Prelude.{◌≡◌, ◌+◌};
+ghost use Rattle.std.specs.Prelude.{◌≤◌, ◌+◌};
 ghost use Rattle.ih_shelf.specs.Outside.{IfTold};
 ghost use Rattle.ih_answers.specs.Answers.{HasShelfCause};
 ghost use Rattle.ih_answers.specs.{Ends.Ends, Ends.HasCause, Ends.Received, Texts.ReceivedPart};
@@ -15,8 +15,8 @@ use std::rt::Files;
 use std::sync::Wait;
 use std::thread::Threads;
 
-/// Takes all steps, and ends. Each writes its files and then puts its text, before the next one is taken. Where one
-/// can't be done or said, the call ends there.
+/// Takes steps until none is left, at most so many, and ends. Each writes its files and then puts its text, before the
+/// next one is taken. Where one can't be done or said, the call ends there.
 pub fn go_on<'a, R: Files + Print + Threads + Wait + Sync, P: Steps<'a>, S: Shelf, O: Sink>(
     rt: &R,
     alloc: Global,
@@ -26,9 +26,9 @@ pub fn go_on<'a, R: Files + Print + Threads + Wait + Sync, P: Steps<'a>, S: Shel
     out: &mut O,
 ) -> Status
     requires lawful { P.is_lawful steps.old }
-    requires count { P.left steps.old ≡ count }
+    requires count { P.left steps.old ≤ count }
     ensures ends { Ends
-        (StepsEnds (P.steps_to (P.task steps.old)) P.ends_as count (P.state steps.old)
+        (StepsEnds (P.steps_to (P.task steps.old)) (P.ends_as (P.task steps.old)) count (P.state steps.old)
         (S.names shelf.old) (S.names shelf.new))
         (HasShelfCause S.Shelf shelf.old shelf.new)
         (Received result (O.text out.old) (O.text out.new) (O.faults out.old) (O.faults out.new))
@@ -38,6 +38,9 @@ pub fn go_on<'a, R: Files + Print + Threads + Wait + Sync, P: Steps<'a>, S: Shel
         (S.write_faults shelf.new) (O.faults out.old) (O.faults out.new) result }
 {
     for _ in 0..count {
+        if steps.is_over() {
+            break;
+        }
         let made = steps.step(rt, alloc);
         match finish(rt, alloc, made, shelf, out) {
             Status::Done => {}

@@ -1,6 +1,6 @@
 //! What goes on in steps: what each comes to, and what is left at the end.
 
-ghost use Rattle.std.specs.Prelude.{◌≡◌, ◌+◌, ◌<◌, ℕ, IfOk};
+ghost use Rattle.std.specs.Prelude.{◌≡◌, ◌↔◌, ◌<◌, ℕ, IfOk, IsTrue};
 ghost use Rattle.std.specs.Thread.{IsSync};
 ghost use Rattle.ih_answers.specs.declared.status.Status.TheVariants.{Done};
 ghost use Rattle.ih_frame.specs.Outcomes.{IsOwnStatus, OutcomeState, outcome_of};
@@ -24,14 +24,19 @@ pub trait Steps<'a> {
 
     ghost is_lawful: { Self → Type 0 };
 
-    /// How many steps are left.
+    /// How many steps are left at most. None is left where all are over, and a step may find that before they are made.
     ghost left: { Self → ℕ };
 
     /// From which state a step leads to which, and what it comes to.
     ghost steps_to: { Task → State → OutcomeState → State → Type 0 };
 
     /// What it comes to at last.
-    ghost ends_as: { State → OutcomeState → Type 0 };
+    ghost ends_as: { Task → State → OutcomeState → Type 0 };
+
+    /// Whether no step is left.
+    fn is_over(&self) -> bool
+        requires lawful { is_lawful self.now }
+        ensures { IsTrue result ↔ (left self.now ≡ 0) };
 
     /// The next step.
     fn step<R: Threads + Wait + Sync>(
@@ -43,7 +48,7 @@ pub trait Steps<'a> {
         requires lawful { is_lawful self.old }
         requires left { 0 < left self.old }
         ensures lawful { is_lawful self.new }
-        ensures left { left self.new + 1 ≡ left self.old }
+        ensures left { left self.new < left self.old }
         ensures steps { IfOk result
             (λ o. steps_to (task self.old) (state self.old) (outcome_of o) (state self.new)) }
         ensures done { IfOk result (λ o. o.status ≡ Done) }
@@ -53,6 +58,6 @@ pub trait Steps<'a> {
     fn end(&self, alloc: Global) -> Result<Outcome<'a>, AllocError>
         requires lawful { is_lawful self.now }
         requires left { left self.now ≡ 0 }
-        ensures ends { IfOk result (λ o. ends_as (state self.now) (outcome_of o)) }
+        ensures ends { IfOk result (λ o. ends_as (task self.now) (state self.now) (outcome_of o)) }
         ensures own { IfOk result (λ o. IsOwnStatus o.status) };
 }

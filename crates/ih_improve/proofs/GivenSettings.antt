@@ -2,7 +2,7 @@
 use Rattle.std.proofs.Common.{◌≡◌, ◌∙◌, ◌≤◌, ℕ, sym, ap, subst, arith, Option, Some, None}
 use Rattle.std.specs.Prelude.{max, min, unwrap_or}
 use Rattle.ih_tables.specs.declared.drafts.Draft.{Draft}
-use Rattle.ih_plan.specs.declared.limits.TheConstants.{MAX_HARD, MAX_HEAT}
+use Rattle.ih_plan.specs.declared.limits.TheConstants.{MAX_HARD, MAX_HEAT, MAX_WORKERS}
 use Rattle.ih_improve.specs.Defaults.{AreDefaults}
 use Rattle.ih_improve.specs.Given.{AreSettingsOf, settings_with, widest}
 use Rattle.ih_improve.specs.Settings.{IsLawful}
@@ -30,32 +30,35 @@ pub record AreWithin (d : Defaults) : Type 0 where
   pub cold : d.cold ≤ d.hot
   pub hard : d.hard ≤ MAX_HARD
 
-module _ (g : Given) (limits : IsLawful (widest g)) (d : Defaults) (within : AreWithin d) where
-  with-lawful : IsLawful (settings_with g d)
+-- a number of workers that isn't given comes from the processors
+given-some : (o : Option ℕ) (n : ℕ) → 1 ≤ unwrap_or o MAX_WORKERS → 1 ≤ n → 1 ≤ unwrap_or o n
+given-some None n limit below = below
+given-some (Some m) n limit below = limit
+
+module _ (g : Given) (limits : IsLawful (widest g)) (d : Defaults) (within : AreWithin d) (p : ℕ) (some : 1 ≤ p) (few : p ≤ MAX_WORKERS) where
+  with-lawful : IsLawful (settings_with g p d)
   with-lawful =
       let h = heats g.hot g.cold d.hot d.cold limits.hot limits.cold within.hot within.cold in
       record {
-        some_worker = limits.some_worker;
-        workers = limits.workers;
-        some_round = limits.some_round;
-        rounds = limits.rounds;
-        attempts = limits.attempts;
+        some_worker = given-some g.workers p limits.some_worker some;
+        workers = given-most g.workers p MAX_WORKERS limits.workers few;
         hot = h.0;
         cold = h.1;
         hard = given-most g.hard d.hard MAX_HARD limits.hard within.hard;
       }
 
   -- where the code has values that equal these
-  pub settings-of : (I : Draft) → AreDefaults I d → (h k m : ℕ) → h ≡ unwrap_or g.hot (max d.hot (unwrap_or g.cold d.cold))
+  pub settings-of : (I : Draft) → AreDefaults I d → (w h k m : ℕ) → w ≡ unwrap_or g.workers p → h ≡ unwrap_or g.hot (max d.hot (unwrap_or g.cold d.cold))
       → k ≡ unwrap_or g.cold (min d.cold (unwrap_or g.hot d.hot)) → m ≡ unwrap_or g.hard d.hard
-      → AreSettingsOf I g (record (settings_with g d) { hot = h; cold = k; hard = m })
-  settings-of I by_weights h k m hot-is cold-is hard-is =
-      let are : record (settings_with g d) { hot = h; cold = k; hard = m } ≡ settings_with g d =
-      ap (λ (x : ℕ). record (settings_with g d) { hot = x; cold = k; hard = m }) hot-is
-      ∙ (ap (λ (x : ℕ). record (settings_with g d) { cold = x; hard = m }) cold-is ∙ ap (λ (x : ℕ). record (settings_with g d) { hard = x }) hard-is) in
+      → AreSettingsOf I g p (record (settings_with g p d) { workers = w; hot = h; cold = k; hard = m })
+  settings-of I by_weights w h k m workers-are hot-is cold-is hard-is =
+      let are : record (settings_with g p d) { workers = w; hot = h; cold = k; hard = m } ≡ settings_with g p d =
+      ap (λ (x : ℕ). record (settings_with g p d) { workers = x; hot = h; cold = k; hard = m }) workers-are
+      ∙ (ap (λ (x : ℕ). record (settings_with g p d) { hot = x; cold = k; hard = m }) hot-is
+      ∙ (ap (λ (x : ℕ). record (settings_with g p d) { cold = x; hard = m }) cold-is ∙ ap (λ (x : ℕ). record (settings_with g p d) { hard = x }) hard-is)) in
       record { lawful = subst IsLawful (sym are) with-lawful; defaults = d; by_weights = by_weights; are = are }
 
-pub settings-same : (I : Draft) (g : Given) (s t : Settings) → AreSettingsOf I g s → AreSettingsOf I g t → s ≡ t
-settings-same I g s t one other =
+pub settings-same : (I : Draft) (g : Given) (p : ℕ) (s t : Settings) → AreSettingsOf I g p s → AreSettingsOf I g p t → s ≡ t
+settings-same I g p s t one other =
     one.are
-    ∙ (ap (λ (d : Defaults). settings_with g d) (defaults-same I one.defaults other.defaults one.by_weights other.by_weights) ∙ sym other.are)
+    ∙ (ap (λ (d : Defaults). settings_with g p d) (defaults-same I one.defaults other.defaults one.by_weights other.by_weights) ∙ sym other.are)

@@ -8,10 +8,11 @@ use Rattle.ih_tables.specs.declared.bills.Bill.{Bill}
 use Rattle.ih_tables.specs.declared.drafts.Draft.{Draft}
 use Rattle.ih_plan.specs.Timetable.{Timetable, IsPlanOf}
 use Rattle.ih_plan.specs.BillOf.{bill_of}
+use Rattle.ih_improve.specs.declared.spans.Span.{Span}
 use Rattle.ih_improve.specs.declared.workers.ImproveWorker.{ImproveWorker}
 use Rattle.ih_improve.specs.Better.{best_of, better_of}
 use Rattle.ih_improve.specs.Following.{IsNoDearer, MayFollow, MayStand}
-use Rattle.ih_improve.specs.ImproverState.{ImproverState, Leads, led_to, leg_of}
+use Rattle.ih_improve.specs.ImproverState.{ImproverState, Leads, MayGoOn, led_to, leg_of}
 use Rattle.ih_improve.specs.Keeping.{IsKeeping, IsOf, StandsOn, StandsWell, best_met}
 use Rattle.ih_improve.specs.Legs.{IsLeg, Leaves}
 use Rattle.ih_improve.proofs.BetterLemmas.{best-follows, follows-through, no_dearer-same}
@@ -56,31 +57,30 @@ all-stand I start freeze ws plan =
     (λ w is. subst (MayStand I start freeze) (sym is) (start-stands I start freeze plan)) ws
 
 -- what a round begins with
-pub begins : (v : ImproverState) (bill : Bill) (ws : List ImproveWorker) → IsKeeping v bill ws → v.rounds < v.settings.rounds → IsLeg (leg_of v) bill
-begins v bill ws keeping more = record {
+pub begins : (v : ImproverState) (s : Span) (bill : Bill) (ws : List ImproveWorker) → IsKeeping v bill ws → IsLeg (leg_of v s) bill
+begins v s bill ws keeping = record {
   lawful = keeping.sound.lawful;
-  round = more;
   start = keeping.sound.start;
   from = keeping.sound.kept;
   bill_is = keeping.bill_is;
 }
 
-module _ (v : ImproverState) (bill : Bill) (old new : List ImproveWorker) (keeping : IsKeeping v bill old) (len : length new ≡ length old)
+module _ (v : ImproverState) (s : Span) (bill : Bill) (old new : List ImproveWorker) (keeping : IsKeeping v bill old) (len : length new ≡ length old)
     (same : (k : ℕ) (d : ImproveWorker) → k < length old → (slice_index_or new k d).walker.instance ≡ v.instance)
     (stands : (k : ℕ) (d : ImproveWorker) → k < length old → StandsWell v.instance v.start v.settings.freeze (slice_index_or new k d))
-    (left : (k : ℕ) (d : ImproveWorker) → k < length old → Leaves (leg_of v) k (best_met (slice_index_or new k d))) where
+    (left : (k : ℕ) (d : ImproveWorker) → k < length old → Leaves (leg_of v s) k (best_met (slice_index_or new k d))) where
   pub all-of : All (IsOf v.instance) new
   all-of = all-each (IsOf v.instance) new (λ k d h. same k d (omega (arith, h, len)))
 
   all-well : All (StandsWell v.instance v.start v.settings.freeze) new
   all-well = all-each (StandsWell v.instance v.start v.settings.freeze) new (λ k d h. stands k d (omega (arith, h, len)))
 
-  leaves-each : (w : ℕ) (Q : Timetable) → slice_get (map best_met new) w ≡ Some Q → Leaves (leg_of v) w Q
+  leaves-each : (w : ℕ) (Q : Timetable) → slice_get (map best_met new) w ≡ Some Q → Leaves (leg_of v s) w Q
   leaves-each w Q there =
       let x = at-map best_met new w Q there in
-      subst (Leaves (leg_of v) w) (ap best_met x.2 ∙ x.3) (left w x.0 (omega (arith, x.1, len)))
+      subst (Leaves (leg_of v s) w) (ap best_met x.2 ∙ x.3) (left w x.0 (omega (arith, x.1, len)))
 
-  pub leads : (P : Timetable) → P ≡ best_of v.instance v.settings.hard v.kept (map best_met new) → Leads Leaves v P
+  pub leads : (P : Timetable) → P ≡ best_of v.instance v.settings.hard v.kept (map best_met new) → Leads Leaves v s P
   leads P best = record {
     left = map best_met new;
     each_worker = length-best new ∙ (len ∙ keeping.count);
@@ -102,12 +102,13 @@ module _ (v : ImproverState) (bill : Bill) (old new : List ImproveWorker) (keepi
   pub no_dearer : (P : Timetable) → P ≡ best_of v.instance v.settings.hard v.kept (map best_met new) → IsNoDearer v.instance v.kept P
   no_dearer P best = (follows P best).no_dearer
 
-  pub keeps : (P : Timetable) (more : Bill) → v.rounds < v.settings.rounds → P ≡ best_of v.instance v.settings.hard v.kept (map best_met new)
-      → more ≡ bill_of v.instance P → IsKeeping (led_to v P) more new
-  keeps P more round best billed = record {
+  pub keeps : (P : Timetable) (more : Bill) → MayGoOn v s → P ≡ best_of v.instance v.settings.hard v.kept (map best_met new)
+      → more ≡ bill_of v.instance P → IsKeeping (led_to v s P) more new
+  keeps P more may best billed = record {
     sound = record {
       lawful = keeping.sound.lawful;
-      rounds = omega (arith, round);
+      rounds = let rounds = may.rounds in omega (arith, rounds);
+      attempts = may.attempts;
       start = keeping.sound.start;
       kept = follows-through v.instance v.start v.settings.freeze v.kept P keeping.sound.kept (follows P best);
     };

@@ -2,35 +2,38 @@
 
 use crate::defaults::Defaults;
 use crate::settings::Settings;
-use ih_plan::{MAX_HARD, MAX_HEAT};
+use ih_plan::{MAX_HARD, MAX_HEAT, MAX_WORKERS};
 use ih_tables::Instance;
 
-/// Settings that are given. The heats and the weight of a broken rule may be left out.
+/// Settings that are given.
 #[derive(Clone, Copy, Debug)]
 pub struct Given {
+    /// Where the random words of the workers begin.
     pub seed: u64,
-    pub workers: u32,
-    pub attempts: u64,
-    pub rounds: u32,
+    /// How many workers search side by side. Without it the machine decides.
+    pub workers: Option<u32>,
+    /// The heat of the first attempt. Without it the weights decide.
     pub hot: Option<u32>,
+    /// The heat of the last attempt. Without it the weights decide.
     pub cold: Option<u32>,
+    /// The weight of a broken hard rule in a score. Without it the weights decide.
     pub hard: Option<u32>,
+    /// The first day whose choices may change.
     pub freeze: u32,
 }
 
 impl Given {
-    ghost use Rattle.std.specs.Prelude.{◌≡◌};
+    ghost use Rattle.std.specs.Prelude.{◌≡◌, ◌≤◌};
     ghost use Rattle.ih_improve.specs.{Given.AreSettingsOf, Given.widest, Settings.IsLawful};
 
-    /// These settings, with the widest heats and the greatest weight of a broken rule where none are given.
+    /// These settings, with the most workers, the widest heats and the greatest weight of a broken rule where none are
+    /// given.
     pub fn widest(&self) -> Settings
         ensures { result ≡ widest self.now }
     {
         Settings {
             seed: self.seed,
-            workers: self.workers,
-            attempts: self.attempts,
-            rounds: self.rounds,
+            workers: self.workers.unwrap_or(MAX_WORKERS),
             hot: self.hot.unwrap_or(MAX_HEAT),
             cold: self.cold.unwrap_or(0),
             hard: self.hard.unwrap_or(MAX_HARD),
@@ -39,10 +42,12 @@ impl Given {
     }
 
     /// The settings of a search. What isn't given comes from the weights of the instance. If one heat is given, the other
-    /// lies on the right side of it.
-    pub fn settings(&self, inst: &Instance) -> Settings
-        requires { IsLawful (widest self.now) }
-        ensures { AreSettingsOf inst.now.draft self.now result }
+    /// lies on the right side of it. Where no number of workers is given, there are as many as processors.
+    pub fn settings(&self, inst: &Instance, processors: u32) -> Settings
+        requires lawful { IsLawful (widest self.now) }
+        requires some { 1 ≤ processors }
+        requires few { processors ≤ MAX_WORKERS }
+        ensures { AreSettingsOf inst.now.draft self.now processors result }
     {
         let usual = Defaults::by_weights(inst);
         let hot = self
@@ -53,9 +58,7 @@ impl Given {
             .unwrap_or(usual.cold.min(self.hot.unwrap_or(usual.hot)));
         Settings {
             seed: self.seed,
-            workers: self.workers,
-            attempts: self.attempts,
-            rounds: self.rounds,
+            workers: self.workers.unwrap_or(processors),
             hot,
             cold,
             hard: self.hard.unwrap_or(usual.hard),

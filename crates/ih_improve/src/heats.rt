@@ -5,7 +5,8 @@ ghost use Rattle.std.specs.Prelude.{◌<◌, ◌≤◌, ◌^◌};
 use crate::defaults::Defaults;
 use crate::legs::Leg;
 use crate::logarithms::{logarithm, power};
-use crate::settings::{MAX_ATTEMPTS, Settings};
+use crate::settings::Settings;
+use crate::spans::Span;
 use ih_plan::MAX_HARD;
 use ih_tables::Instance;
 
@@ -21,35 +22,38 @@ pub(crate) struct Cooling {
     pub(crate) hot: u32,
     /// The last heat.
     pub(crate) cold: u32,
-    /// The number of the attempt that has the first heat.
+    /// The place in the schedule that has the first heat.
     pub(crate) from: u64,
-    /// After so many attempts it is the last heat.
-    pub(crate) attempts: u64,
+    /// So far behind it is the last heat.
+    pub(crate) length: u64,
 }
+
+// The longest schedule.
+const MAX_LENGTH: u64 = 1_000_000_000_000;
 
 // A heat in 65536ths.
 fn in_parts(heat: u32) -> u64 {
     (u64::from(heat) * 65536).max(8192)
 }
 
-// What of a fall is done after so many of all attempts.
-fn share_of(fall: u64, made: u64, attempts: u64) -> u64
+// What of a fall is done after such a part of the whole.
+fn share_of(fall: u64, passed: u64, length: u64) -> u64
     requires fall { fall < 2 ^ 22 }
-    requires made { made ≤ MAX_ATTEMPTS }
+    requires passed { passed ≤ MAX_LENGTH }
 {
-    fall * made / attempts.max(1)
+    fall * passed / length.max(1)
 }
 
 impl Cooling {
-    /// The heat at an attempt, in 65536ths of a unit of the score. A heat of 0 stands for an eighth of a unit, at which
-    /// hardly anything dearer is accepted.
-    pub(crate) fn at(&self, attempt_no: u64) -> u64
+    /// The heat at a place in the schedule, in 65536ths of a unit of the score. A heat of 0 stands for an eighth of a
+    /// unit, at which hardly anything dearer is accepted.
+    pub(crate) fn at(&self, place: u64) -> u64
         ensures { result ≤ 2 ^ 37 }
     {
         let hot = logarithm(in_parts(self.hot));
         let cold = logarithm(in_parts(self.cold));
-        let made = attempt_no.saturating_sub(self.from).min(MAX_ATTEMPTS);
-        power(hot.saturating_sub(share_of(hot.saturating_sub(cold), made, self.attempts)))
+        let passed = place.saturating_sub(self.from).min(MAX_LENGTH);
+        power(hot.saturating_sub(share_of(hot.saturating_sub(cold), passed, self.length)))
     }
 }
 
@@ -76,22 +80,31 @@ fn first_heat(inst: &Instance, settings: &Settings, worker_no: usize) -> u32 {
     }
 }
 
-/// The heats of a worker, once it has made so many attempts: they fall over all attempts. Where nothing feasible is
-/// found in half of them, they fall a second time over the others.
+/// The heats of a worker from a place in the schedule on: they fall over the whole of it. Where nothing feasible is found
+/// in its first half, they fall a second time over the other. In a cold round they are 0.
 pub(crate) fn cooling_of(
     inst: &Instance,
     settings: &Settings,
     worker_no: usize,
-    done: u64,
+    span: &Span,
+    place: u64,
     is_found: bool,
 ) -> Cooling {
-    let half = settings.attempts / 2;
-    let from = if is_found || done < half { 0 } else { half };
+    if span.is_cold {
+        return Cooling {
+            hot: 0,
+            cold: 0,
+            from: 0,
+            length: span.whole,
+        };
+    }
+    let half = span.whole / 2;
+    let from = if is_found || place < half { 0 } else { half };
     Cooling {
         hot: first_heat(inst, settings, worker_no),
         cold: settings.cold,
         from,
-        attempts: settings.attempts - from,
+        length: span.whole - from,
     }
 }
 
@@ -115,12 +128,12 @@ pub(crate) struct Pace {
 }
 
 impl Pace {
-    /// The pace of a worker in a round, before which it has made so many attempts.
-    pub(crate) fn of_round(leg: &Leg<'_>, worker_no: usize, done: u64) -> Pace {
-        let (inst, settings) = (leg.instance(), leg.settings());
+    /// The pace of a worker in a round.
+    pub(crate) fn of_round(leg: &Leg<'_>, worker_no: usize) -> Pace {
+        let (inst, settings, span) = (leg.instance(), leg.settings(), leg.span());
         let is_found = leg.bill().feasible();
         Pace {
-            cooling: cooling_of(inst, settings, worker_no, done, is_found),
+            cooling: cooling_of(inst, settings, worker_no, span, span.from, is_found),
             hard: hard_of(settings, leg.round(), is_found),
             reach: i64::from(Defaults::by_weights(inst).hot),
         }

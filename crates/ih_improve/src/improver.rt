@@ -11,6 +11,7 @@ use crate::heats::cooling_of;
 use crate::legs::Leg;
 use crate::rounds::walk_all;
 use crate::settings::Settings;
+use crate::spans::Span;
 use crate::walkers::Walker;
 use crate::workers::ImproveWorker;
 use ih_plan::Plan;
@@ -26,8 +27,11 @@ pub struct Improver<'a> {
     inst: &'a Instance,
     start: Plan,
     settings: Settings,
-    // How many rounds are over.
+    // How many rounds are over, and how many attempts each worker made in them.
     rounds: u32,
+    attempts: u64,
+    // The last of them.
+    last: Span,
     // The best timetable so far, and its bill.
     kept: Plan,
     bill: Bill,
@@ -46,6 +50,7 @@ impl<'a> Model for Improver<'a> {
       start = m.start;
       settings = m.settings;
       rounds = m.rounds;
+      attempts = m.attempts;
       kept = m.kept;
     } };
 
@@ -55,6 +60,7 @@ impl<'a> Model for Improver<'a> {
           start = m.start;
           settings = m.settings;
           rounds = m.rounds;
+          attempts = m.attempts;
           kept = m.kept;
         } in IsKeeping v m.bill m.workers.items };
 }
@@ -126,10 +132,10 @@ impl<'a> Improver<'a> {
     ghost use Rattle.ih_plan.specs.Timetable.{IsPlanOf};
     ghost use Rattle.ih_plan.specs.BillOf.{bill_of};
     ghost use Rattle.ih_improve.specs.Better.{is_better};
-    ghost use Rattle.ih_improve.specs.ImproverState.{IsSound, Leads, led_to};
+    ghost use Rattle.ih_improve.specs.ImproverState.{IsSound, Leads, MayGoOn, led_to};
     ghost use Rattle.ih_improve.specs.Following.{IsNoDearer};
     ghost use Rattle.ih_improve.specs.Legs.{Leaves};
-    ghost use Rattle.ih_improve.specs.Settings.{IsLawful, attempts_through};
+    ghost use Rattle.ih_improve.specs.Settings.{IsLawful};
 
     /// A search over a start, which fits the instance. The start is the best so far.
     pub fn new(
@@ -145,6 +151,7 @@ impl<'a> Improver<'a> {
           start = start.now;
           settings = settings.now;
           rounds = 0;
+          attempts = 0;
           kept = start.now;
         }) }
     {
@@ -155,6 +162,14 @@ impl<'a> Improver<'a> {
             start: start.try_clone(alloc)?,
             settings: *settings,
             rounds: 0,
+            attempts: 0,
+            last: Span {
+                attempts: 0,
+                from: 0,
+                to: 0,
+                whole: 0,
+                is_cold: false,
+            },
             kept: start.try_clone(alloc)?,
             bill,
             workers,
@@ -164,10 +179,10 @@ impl<'a> Improver<'a> {
     /// One round: each worker goes on from its own timetable, or from the best so far, by attempts of its own, in a
     /// thread of its own where one can be started, and the best of all is kept. It is never dearer than the one before.
     /// Answers whether it is better than that; else it is the same.
-    pub fn round<R: Threads + Sync>(&mut self, rt: &R) -> bool
-        requires { self.old.rounds < self.old.settings.rounds }
-        ensures search { self.new ≡ led_to self.old self.new.kept }
-        ensures best { Leads Leaves self.old self.new.kept }
+    pub fn round<R: Threads + Sync>(&mut self, rt: &R, span: &Span) -> bool
+        requires { MayGoOn self.old span.now }
+        ensures search { self.new ≡ led_to self.old span.now self.new.kept }
+        ensures best { Leads Leaves self.old span.now self.new.kept }
         ensures no_dearer { IsNoDearer self.old.instance self.old.kept self.new.kept }
         ensures better { result ≡ is_better self.old.settings.hard self.old.instance.weights
             (bill_of self.old.instance self.new.kept) (bill_of self.old.instance self.old.kept) }
@@ -178,11 +193,14 @@ impl<'a> Improver<'a> {
             &self.start,
             &self.settings,
             self.rounds,
+            span,
             &self.kept,
             &self.bill,
         );
         walk_all(rt, &leg, self.workers.as_mut_slice());
         self.rounds += 1;
+        self.attempts += span.attempts;
+        self.last = *span;
         take_best(
             self.inst,
             self.settings.hard,
@@ -208,6 +226,14 @@ impl<'a> Improver<'a> {
         }
     }
 
+    /// The best timetable so far, whether it is feasible or not. What holds of it is `IsSound`.
+    pub fn kept(&self) -> &Plan
+        ensures value { result.now ≡ self.now.kept }
+        ensures sound { IsSound self.now }
+    {
+        &self.kept
+    }
+
     /// How many rounds are over.
     pub fn rounds_made(&self) -> u32
         ensures { result ≡ self.now.rounds }
@@ -215,20 +241,36 @@ impl<'a> Improver<'a> {
         self.rounds
     }
 
-    /// How many attempts all workers have made together.
-    pub fn attempts_made(&self) -> u64
-        ensures value { result ≡ self.now.settings.workers * attempts_through self.now.settings self.now.rounds }
-        ensures most { result ≤ 10 ^ 12 }
+    /// How many workers there are.
+    pub fn workers(&self) -> u32
+        ensures { result ≡ self.now.settings.workers }
     {
-        u64::from(self.settings.workers) * self.settings.attempts_through(self.rounds)
+        self.settings.workers
     }
 
-    /// The first worker's heat as the next round begins, or as the last one ended. It is for showing alone.
+    /// How many attempts each worker has made.
+    pub fn attempts_each(&self) -> u64
+        ensures value { result ≡ self.now.attempts }
+        ensures most { result ≤ 10 ^ 17 }
+    {
+        self.attempts
+    }
+
+    /// How many attempts all workers have made together.
+    pub fn attempts_made(&self) -> u64
+        ensures value { result ≡ self.now.settings.workers * self.now.attempts }
+        ensures most { result ≤ 64 * 10 ^ 17 }
+    {
+        u64::from(self.settings.workers) * self.attempts
+    }
+
+    /// The first worker's heat as the last round ended. It is for showing alone.
     pub fn heat(&self) -> u32
         ensures { result ≤ 2 ^ 21 }
     {
-        let done = self.settings.attempts_through(self.rounds);
-        let cooling = cooling_of(self.inst, &self.settings, 0, done, self.bill.feasible());
-        (cooling.at(done) / 65536) as u32
+        let place = self.last.to;
+        let is_found = self.bill.feasible();
+        let cooling = cooling_of(self.inst, &self.settings, 0, &self.last, place, is_found);
+        (cooling.at(place) / 65536) as u32
     }
 }

@@ -4,8 +4,8 @@ ghost use Rattle.ih_improve.specs.Laws.{DefaultsAreDetermined, RoundsAreDetermin
 
 use crate::rounds::Walks;
 
-/// Where what each worker leaves follows from what the round begins with and from its number, as many rounds from the
-/// same beginning lead to the same timetables, however many workers there are and whatever the threads do.
+/// Where what each worker leaves follows from what the round begins with and from its number, rounds with the same spans
+/// from the same beginning lead to the same timetables, however many workers there are and whatever the threads do.
 pub fn determined_workers_make_determined_rounds<W: Walks>()
     ensures { RoundsAreDetermined W.leaves }
 {}

@@ -1,18 +1,20 @@
 //! What a round begins with.
 
 use crate::settings::Settings;
+use crate::spans::Span;
 use ih_plan::Plan;
 use ih_tables::{Bill, Instance};
 use std::marker::Model;
 
-/// All that a worker goes by in a round, beside its own number: the settings, which round it is, and the plan from
-/// which it goes on, with its bill.
+/// All that a worker goes by in a round, beside its own number: the settings, which round it is, what that is to do, and
+/// the plan from which it goes on, with its bill.
 #[derive(Drop)]
 pub struct Leg<'b> {
     inst: &'b Instance,
     start: &'b Plan,
     settings: Settings,
     round: u32,
+    span: Span,
     from: &'b Plan,
     bill: Bill,
 }
@@ -27,6 +29,7 @@ impl<'b> Model for Leg<'b> {
       start = l.start.now;
       settings = l.settings;
       round = l.round;
+      span = l.span;
       from = l.from.now;
     } };
 
@@ -36,6 +39,7 @@ impl<'b> Model for Leg<'b> {
           start = l.start.now;
           settings = l.settings;
           round = l.round;
+          span = l.span;
           from = l.from.now;
         } in IsLeg s l.bill };
 }
@@ -51,6 +55,7 @@ impl<'b> Leg<'b> {
         start: &'b Plan,
         settings: &Settings,
         round: u32,
+        span: &Span,
         from: &'b Plan,
         bill: &Bill,
     ) -> Leg<'b>
@@ -59,6 +64,7 @@ impl<'b> Leg<'b> {
           start = start.now;
           settings = settings.now;
           round = round;
+          span = span.now;
           from = from.now;
         } in IsLeg s bill.now }
         ensures { result ≡ record {
@@ -66,6 +72,7 @@ impl<'b> Leg<'b> {
           start = start.entry.now;
           settings = settings.now;
           round = round;
+          span = span.now;
           from = from.entry.now;
         } }
     {
@@ -74,6 +81,7 @@ impl<'b> Leg<'b> {
             start,
             settings: *settings,
             round,
+            span: *span,
             from,
             bill: *bill,
         }
@@ -105,6 +113,13 @@ impl<'b> Leg<'b> {
         ensures { result ≡ self.now.round }
     {
         self.round
+    }
+
+    /// What the round is to do.
+    pub(crate) fn span(&self) -> &Span
+        ensures { result.now ≡ self.now.span }
+    {
+        &self.span
     }
 
     /// The timetable from which the round goes on.

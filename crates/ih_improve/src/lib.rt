@@ -13,6 +13,7 @@ mod legs;
 mod logarithms;
 mod rounds;
 mod settings;
+mod spans;
 mod walkers;
 mod workers;
 
@@ -26,3 +27,4 @@ pub use laws::{
 pub use legs::Leg;
 pub use rounds::Walks;
 pub use settings::{MAX_ATTEMPTS, MAX_ROUNDS, Settings};
+pub use spans::Span;

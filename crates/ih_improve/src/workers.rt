@@ -50,27 +50,27 @@ impl<'a> ImproveWorker<'a> {
         })
     }
 
-    // Whether the worker leaves its own timetable for the best so far: in the last tenth of all attempts, or where the
+    // Whether the worker leaves its own timetable for the best so far: in the last tenth of the schedule, or where the
     // best is cheaper by more than the heat for each person.
-    fn takes_over(&self, leg: &Leg<'_>, pace: &Pace, done: u64) -> bool {
+    fn takes_over(&self, leg: &Leg<'_>, pace: &Pace) -> bool {
         leg.know_leg();
-        let settings = leg.settings();
+        let (settings, span) = (leg.settings(), leg.span());
         let inst = leg.instance();
         let own = inst.score_of(settings.hard, self.walker.bill());
         let best = inst.score_of(settings.hard, self.walker.best_bill());
-        let far = (pace.cooling.at(done) >> 16) * u64::from(inst.persons());
-        settings.attempts - settings.attempts / 10 <= done || own.saturating_sub(best) > far as i64
+        let far = (pace.cooling.at(span.from) >> 16) * u64::from(inst.persons());
+        span.whole - span.whole / 10 <= span.from || own.saturating_sub(best) > far as i64
     }
 
     // Begins a round, where the worker stands or on the best timetable so far.
-    fn begin_round(&mut self, leg: &Leg<'_>, pace: &Pace, done: u64)
+    fn begin_round(&mut self, leg: &Leg<'_>, pace: &Pace)
         requires instance { self.old.walker.instance ≡ leg.now.instance }
         requires stands { MayStand leg.now.instance leg.now.start leg.now.settings.freeze self.old.walker.now }
         ensures { IsUnderway leg.now self.new.walker }
     {
         leg.know_leg();
         self.walker.begin_with_best(leg.from(), leg.bill());
-        if self.takes_over(leg, pace, done) {
+        if self.takes_over(leg, pace) {
             self.walker.go_to(leg.from(), leg.bill());
         }
     }
@@ -136,15 +136,17 @@ impl<'a> ImproveWorker<'a> {
         }
     }
 
-    // The attempts from number `done` on and before `until`. The heat is that of the first, and a new one each 1024th.
-    fn attempt_all(&mut self, leg: &Leg<'_>, pace: &Pace, done: u64, until: u64)
+    // All attempts of the round. The heat is that of the first, and a new one each 1024th, as the schedule counts them.
+    fn attempt_all(&mut self, leg: &Leg<'_>, pace: &Pace)
         requires { IsUnderway leg.now self.old.walker }
         ensures { IsUnderway leg.now self.new.walker }
     {
-        let mut heat = pace.cooling.at(done);
-        for attempt_no in done..until {
-            if attempt_no % ATTEMPTS_AT_A_HEAT == 0 {
-                heat = pace.cooling.at(attempt_no);
+        let span = leg.span();
+        let before = span.from % ATTEMPTS_AT_A_HEAT;
+        let mut heat = pace.cooling.at(span.from);
+        for attempt_no in 0..span.attempts {
+            if (before + attempt_no % ATTEMPTS_AT_A_HEAT) % ATTEMPTS_AT_A_HEAT == 0 {
+                heat = pace.cooling.at(span.place_of(attempt_no));
             }
             self.attempt(leg, pace, heat);
         }
@@ -164,12 +166,9 @@ impl<'a> Walks for ImproveWorker<'a> {
 
     fn walk(&mut self, leg: &Leg<'_>, worker_no: usize) {
         leg.know_leg();
-        let (settings, round) = (leg.settings(), leg.round());
-        let done = settings.attempts_through(round);
-        let until = settings.attempts_through(round + 1);
-        let pace = Pace::of_round(leg, worker_no, done);
-        self.words = RandomWords::new(settings.seed, round, worker_no as u32);
-        self.begin_round(leg, &pace, done);
-        self.attempt_all(leg, &pace, done, until);
+        let pace = Pace::of_round(leg, worker_no);
+        self.words = RandomWords::new(leg.settings().seed, leg.round(), worker_no as u32);
+        self.begin_round(leg, &pace);
+        self.attempt_all(leg, &pace);
     }
 }

@@ -3,7 +3,7 @@
 
 use ih_answers::Status;
 use ih_inputs::run_with_words;
-use ih_planning::run_planner;
+use ih_planning::{ClockWatch, run_planner};
 use ih_shelf::{FileShelf, OutSink};
 use std::process::ExitCode;
 
@@ -11,6 +11,7 @@ fn main(rt: HostRuntime) -> ExitCode {
     let mut shelf = FileShelf::new();
     let mut out = OutSink::new();
     run_with_words(&rt, Status::OutOfMemory.code(), |words| {
-        run_planner(&rt, rt.alloc(), words, &mut shelf, &mut out).code()
+        let watch = ClockWatch::new(&rt);
+        run_planner(&rt, rt.alloc(), words, &mut shelf, &mut out, watch).code()
     })
 }

@@ -1,8 +1,10 @@
 //! The tests, by what they call, and the program that they try.
 
 mod bounds;
+mod checks;
 mod improving;
 mod program;
+mod timed;
 mod views;
 mod views_changes;
 mod ward_page;

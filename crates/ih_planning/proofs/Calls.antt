@@ -1,36 +1,32 @@
 -- How calls end: each may fail to be said, at each memory may run out, and one whose files are accepted, and in which no
 -- count rose, comes to its end.
-use Rattle.std.proofs.Common.{◌≡◌, ℕ, refl, sym, ap, subst, inl, inr, Bool, true, false, List, Option, Some, None}
-use Rattle.std.specs.Prelude.{◌≢◌, ◌⊎◌, if◌then◌else◌}
+use Rattle.std.proofs.Common.{◌≡◌, ◌∙◌, ℕ, refl, ap, inl, inr, Bool, true, false, List, Option, Some, None}
+use Rattle.std.specs.Prelude.{◌⊎◌, if◌then◌else◌}
 use Rattle.clap.specs.Words.{Text}
 use Rattle.ih_tables.specs.Bills.{feasible}
 use Rattle.ih_plan.specs.BillOf.{bill_of}
-use Rattle.ih_validate.specs.Report.{report}
 use Rattle.ih_improve.specs.ImproverState.{ImproverState}
 use Rattle.ih_improve.specs.Legs.{Leaves as WorkerLeaves}
 use Rattle.ih_shelf.specs.Outside.{IfTold, IsOnePutAtMost, Names, Rose}
 use Rattle.ih_inputs.specs.Reading.{Given, HasGiven}
-use Rattle.ih_arguments.specs.declared.explaining.NoCall.{NoCall}
-use Rattle.ih_arguments.specs.declared.explaining.NoCall.TheVariants.{OutOfMemory as NoRoom}
-use Rattle.ih_answers.specs.declared.answer.Answer.{Answer}
 use Rattle.ih_answers.specs.declared.status.Status.{Status}
-use Rattle.ih_answers.specs.declared.status.Status.TheVariants.{Done, NoneFound, OutOfMemory}
-use Rattle.ih_answers.specs.Answers.{Answers, IsConcluded}
+use Rattle.ih_answers.specs.declared.status.Status.TheVariants.{Done, Infeasible, NoneFound, OutOfMemory}
 use Rattle.ih_answers.specs.Ends.{HasCause}
-use Rattle.ih_answers.specs.Texts.{memory_text, none_found_text}
+use Rattle.ih_answers.specs.Texts.{memory_text}
 use Rattle.ih_answers.proofs.Files.{told-same}
-use Rattle.ih_answers.proofs.Saying.{IsAnswerable, ended, memory-ended, unsaid-by}
+use Rattle.ih_answers.proofs.Saying.{IsAnswerable, memory-ended, unsaid-by}
 use Rattle.ih_answers.proofs.Stopping.{unread-memory}
 use Rattle.ih_frame.specs.Ends.{AreAnswers, HasNoFault}
-use Rattle.ih_frame.specs.Outcomes.{OutcomeState, says}
+use Rattle.ih_frame.specs.Outcomes.{OutcomeState}
 use Rattle.ih_frame.proofs.Complete.{accepted, command-answered, no-fault, reached, steps-answered}
 use Rattle.ih_frame.proofs.StepByStep.{one-within}
-use Rattle.ih_planning.specs.Bound.{bound_status}
-use Rattle.ih_planning.specs.Calls.{Call, IsAnswered, bound, comes_to, improve, inputs_of, view}
+use Rattle.ih_planning.specs.Calls.Bound.{judged_status}
+use Rattle.ih_planning.specs.Calls.{Call, IsAnswered, bound, check, comes_to, improve, inputs_of, view}
 use Rattle.ih_planning.specs.Ends.{CallEnds, HasFewPuts, HasFiles, IsComplete, IsUntouched, Leaves, NoCallEnds}
-use Rattle.ih_planning.specs.Improve.{ImproveCall, improve_inputs}
+use Rattle.ih_planning.specs.Calls.Improve.{ImproveCall, improve_inputs}
+use Rattle.ih_planning.specs.Pacing.{most_rounds}
 use Rattle.ih_planning.specs.Rounds.{IsRound, IsSearched}
-use Rattle.ih_planning.specs.Searching.{ImproveEnds}
+use Rattle.ih_planning.specs.Searching.{ImproveEnds, task_of}
 
 -- ---- calls whose files are accepted
 
@@ -38,27 +34,29 @@ improved : (c : ImproveCall) (files : Names) (new : Option Names) (g : Given) �
     → (status : Status) (text : List ℕ) → HasNoFault status → ImproveEnds c (Some files) new status text → IsAnswered (improve c) status
 improved c files new g has status text calm (inl (kept, unread)) = inr (inr (accepted files (improve_inputs c) g has status text calm unread))
 improved c files new g has status text calm (inr (v, is, e)) =
-    steps-answered (IsRound WorkerLeaves c.out) IsSearched c.rounds v (Some files) new (IsAnswered (improve c))
+    steps-answered (IsRound WorkerLeaves (task_of c)) (IsSearched (task_of c)) (most_rounds c.pace.length c.pace.rounds) v (Some files) new (IsAnswered (improve c))
     (λ x o y r. inl (ap (λ (p : OutcomeState). p.status) r.comes)) (λ x o is. searched-answered x o is) (inr (inr refl)) status text calm e
   where
-    by_best : (b : Bool) (o : OutcomeState) (found : List ℕ) → o ≡ (if b then says Done found else says NoneFound none_found_text)
+    by_best : (b : Bool) (o found none : OutcomeState) → found.status ≡ Done → none.status ≡ NoneFound → o ≡ (if b then found else none)
         → IsAnswered (improve c) o.status
-    by_best true o found is = inl (ap (λ (p : OutcomeState). p.status) is)
-    by_best false o found is = inr (inl (ap (λ (p : OutcomeState). p.status) is))
+    by_best true o found none done lacks is = inl (ap (λ (p : OutcomeState). p.status) is ∙ done)
+    by_best false o found none done lacks is = inr (inl (ap (λ (p : OutcomeState). p.status) is ∙ lacks))
 
-    searched-answered : (x : ImproverState) (o : OutcomeState) → IsSearched x o → IsAnswered (improve c) o.status
+    searched-answered : (x : ImproverState) (o : OutcomeState) → IsSearched (task_of c) x o → IsAnswered (improve c) o.status
     searched-answered x o is =
-        by_best (feasible (bill_of x.instance x.kept)) o (report x.instance.weights (bill_of x.instance x.kept)) is
+        by_best (feasible (bill_of x.instance x.kept)) o _ _ refl refl is.comes
+
+-- a status by a judgement
+judged : (works : Bool) (status : Status) → status ≡ judged_status works → (status ≡ Done) ⊎ (status ≡ Infeasible) ⊎ (status ≡ OutOfMemory)
+judged true status is = inl is
+judged false status is = inr (inl is)
 
 -- what a call of one outcome comes to, is an answer
 answers : (call : Call) → AreAnswers (comes_to call) (IsAnswered call)
 answers (improve c) = record { outcomes = λ g o none. absurd none; memory = inr (inr refl) }
 answers (view v) = record { outcomes = λ g o is. inl (ap (λ (x : OutcomeState). x.status) is.page); memory = inr refl }
-answers (bound b) = record { outcomes = λ g o is. by_case _ o.status (ap (λ (x : OutcomeState). x.status) is.said); memory = inr (inr refl) }
-  where
-    by_case : (none : Bool) (status : Status) → status ≡ bound_status none → IsAnswered (bound b) status
-    by_case true status is = inl is
-    by_case false status is = inr (inl is)
+answers (bound b) = record { outcomes = λ g o is. judged _ o.status (ap (λ (x : OutcomeState). x.status) is.said); memory = inr (inr refl) }
+answers (check c) = record { outcomes = λ g o is. judged _ o.status (ap (λ (x : OutcomeState). x.status) is); memory = inr (inr refl) }
 
 -- each end of a call that no fault ended, and whose files are accepted, is an answer
 answered : (call : Call) (files : Names) (new : Option Names) → HasFiles call files → (status : Status) (text : List ℕ) → HasNoFault status
@@ -107,5 +105,5 @@ untouched (Some call) shelf = tt
 
 -- one put is within those of any call
 pub one-few : (call : Option Call) (old new : Option ℕ) → IfTold IsOnePutAtMost old new → HasFewPuts call old new
-one-few (Some (improve c)) old new one = one-within c.rounds old new one
+one-few (Some (improve c)) old new one = one-within (most_rounds c.pace.length c.pace.rounds) old new one
 one-few call old new one = one

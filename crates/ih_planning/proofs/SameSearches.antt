@@ -1,5 +1,5 @@
 -- The search of a call: what it is, and that the words and the files determine it.
-use Rattle.std.proofs.Common.{◌≡◌, ◌∙◌, ◌-◌, arith, refl, sym, ap, ap₂, subst, Bool, true, false, List, ℕ, Option, Some, None, Ok}
+use Rattle.std.proofs.Common.{◌≡◌, ◌∙◌, ◌≤◌, arith, refl, sym, ap, ap₂, subst, Bool, true, false, List, ℕ, Option, Some, None, Ok}
 use Rattle.std.specs.Prelude.{if◌then◌else◌}
 use Rattle.ih_tables.specs.declared.drafts.Draft.{Draft}
 use Rattle.ih_tables.specs.Bills.{feasible}
@@ -15,7 +15,10 @@ use Rattle.ih_improve.specs.ImproverState.{ImproverState}
 use Rattle.ih_improve.specs.declared.settings.Settings.{Settings}
 use Rattle.ih_improve.proofs.BetterLemmas.{better-no_dearer, no_dearer-same}
 use Rattle.ih_improve.proofs.GivenSettings.{settings-same}
-use Rattle.ih_planning.specs.Improve.{ImproveCall, given_settings, improve_inputs}
+use Rattle.ih_planning.specs.Calls.Improve.{ImproveCall, improve_inputs}
+use Rattle.ih_planning.specs.Pacing.{IsLawfulPace, most_rounds, rounds_left}
+use Rattle.ih_planning.specs.declared.pacing.Length.{Length}
+use Rattle.ih_planning.specs.declared.pacing.Length.TheVariants.{Attempts, Seconds}
 use Rattle.ih_planning.specs.Laws.{SearchesAreDetermined}
 use Rattle.ih_planning.specs.Searching.{IsSearch, IsSearchFrom, begun, new_search}
 
@@ -33,11 +36,13 @@ begun-no_dearer true hard I P = by_case (feasible (bill_of I P)) refl
     }
 
 -- a search that was begun from a start of the call
-pub search-from : (I J : Draft) (c : ImproveCall) (P start : Timetable) (s : Settings) (v : ImproverState) → v ≡ new_search J start s → J ≡ I
-    → AreSettingsOf I (given_settings c) s → start ≡ begun c.start.fill s.hard I P → IsSearchFrom I P c v
-search-from I J c P start s v is same settings from =
+pub search-from : (I J : Draft) (c : ImproveCall) (P start : Timetable) (p : ℕ) (s : Settings) (v : ImproverState) → v ≡ new_search J start s → J ≡ I
+    → IsLawfulPace c.pace → AreSettingsOf I c.settings p s → start ≡ begun c.start.fill s.hard I P → IsSearchFrom I P c v
+search-from I J c P start p s v is same pace settings from =
     subst (λ (x : ImproverState). IsSearchFrom I P c x) (sym (is ∙ ap (λ (X : Draft). new_search X start s) same))
     (record {
+      pace = pace;
+      processors = p;
       settings = settings;
       start = from;
       no_dearer = subst (λ (S : Timetable). IsNoDearer I P S) (sym from) (begun-no_dearer c.start.fill s.hard I P);
@@ -52,12 +57,14 @@ plan-same files None I P Q one other = one ∙ sym other
 plan-same files (Some name) I P Q one other = let same : Ok P ≡ Ok Q = sym one.read ∙ other.read in cc
 
 pub searches-same : SearchesAreDetermined
-searches-same c files v w one other =
+searches-same c files v w one other processors =
     let same : v.instance ≡ w.instance = instance-same c.instance files v.instance w.instance one.inputs.instance other.inputs.instance in
     let given : one.given ≡ other.given =
     plan-same files c.start.file w.instance one.given other.given (subst (λ (X : Draft). HasPlan (Some files) c.start.file X one.given) same one.inputs.plan) other.inputs.plan in
     let settings : v.settings ≡ w.settings =
-    settings-same w.instance (given_settings c) v.settings w.settings (subst (λ (X : Draft). AreSettingsOf X (given_settings c) v.settings) same one.from.settings) other.from.settings in
+    settings-same w.instance c.settings other.from.processors v.settings w.settings
+    (subst (λ (p : ℕ). AreSettingsOf w.instance c.settings p v.settings) processors
+    (subst (λ (X : Draft). AreSettingsOf X c.settings one.from.processors v.settings) same one.from.settings)) other.from.settings in
     let start : v.start ≡ w.start =
     one.from.start ∙ (ap (λ (X : Draft). begun c.start.fill v.settings.hard X one.given) same
     ∙ (ap₂ (λ (s : Settings) (P : Timetable). begun c.start.fill s.hard w.instance P) settings given ∙ sym other.from.start)) in
@@ -74,8 +81,8 @@ search-of files c g v has from =
       from = subst (λ (X : Draft). IsSearchFrom X g.plan c v) (sym same) from;
     }
 
--- as many rounds are left as the call asks for
-pub rounds-left : (I : Draft) (c : ImproveCall) (g : Given) (v : ImproverState) → IsSearchFrom I g.plan c v → (rounds : ℕ) → rounds ≡ c.rounds
-    → rounds - v.rounds ≡ c.rounds
-rounds-left I c g v from rounds same =
-    let none : v.rounds ≡ 0 = ap (λ (x : ImproverState). x.rounds) from.is_new in omega (arith, same, none)
+-- no more rounds are left than the call makes at most
+pub rounds-few : (l : Length) (rounds : ℕ) (over : Bool) (made : ℕ) → rounds_left l rounds over made ≤ most_rounds l rounds
+rounds-few (Attempts n) rounds over made = omega arith
+rounds-few (Seconds s) rounds true made = omega arith
+rounds-few (Seconds s) rounds false made = omega arith

@@ -11,6 +11,7 @@ use Rattle.ih_answers.specs.Texts.{memory_text}
 use Rattle.ih_frame.specs.Ends.{CommandEnds}
 use Rattle.ih_frame.specs.Steps.{ArePutsAtMost}
 use Rattle.ih_planning.specs.Calls.{Call, IsAnswered, app_for, comes_to, improve, inputs_of}
+use Rattle.ih_planning.specs.Pacing.{most_rounds}
 use Rattle.ih_planning.specs.Searching.{ImproveEnds}
 
 -- what a call has read and written, and the text that it had to say, by its status
@@ -37,7 +38,7 @@ Leaves words (Some call) old new cause received part status = Ends (CallEnds cal
 -- A search puts out a text after each round, and one more; any other call puts out one. So many puts are counted at
 -- most.
 abbrev pub HasFewPuts : Option Call → Option ℕ → Option ℕ → Type 0
-HasFewPuts (Some (improve c)) old new = IfTold (ArePutsAtMost (c.rounds + 1)) old new
+HasFewPuts (Some (improve c)) old new = IfTold (ArePutsAtMost (most_rounds c.pace.length c.pace.rounds + 1)) old new
 HasFewPuts call old new = IfTold IsOnePutAtMost old new
 
 -- where the words name no call, the shelf is as it was: no file is so much as read

@@ -1,5 +1,6 @@
 -- Laws of calls of the program.
-use Rattle.std.specs.Prelude.{◌≡◌, ℕ, true, List, [], ◌∷◌, ◌++◌, length, Option, Some}
+use Rattle.std.specs.Prelude.{◌≡◌, ℕ, true, false, List, [], ◌∷◌, ◌++◌, length, Option, Some, None}
+use Rattle.clap.specs.Words.{Text}
 use Rattle.ih_tables.specs.declared.drafts.Draft.{Draft}
 use Rattle.ih_tables.specs.Bills.{feasible}
 use Rattle.ih_plan.specs.Timetable.{Timetable}
@@ -14,12 +15,17 @@ use Rattle.ih_improve.specs.ImproverState.{ImproverState}
 use Rattle.ih_improve.specs.Laws.{IsDetermined}
 use Rattle.ih_improve.specs.Legs.{Leaves, LegState}
 use Rattle.ih_improve.specs.declared.settings.Settings.{Settings}
+use Rattle.ih_improve.specs.declared.spans.Span.{Span}
 use Rattle.ih_answers.specs.declared.status.Status.TheVariants.{Done, NoneFound}
 use Rattle.ih_answers.specs.Ends.{Unchanged}
 use Rattle.ih_frame.specs.Outcomes.{OutcomeState}
 use Rattle.ih_frame.specs.Steps.{AreAllWritten, AreSteps}
-use Rattle.ih_planning.specs.Improve.{ImproveCall, given_settings, improve_inputs}
-use Rattle.ih_planning.specs.Rounds.{HoldsBest, IsRound, round_line}
+use Rattle.ih_planning.specs.Calls.Improve.{ImproveCall, improve_inputs}
+use Rattle.ih_planning.specs.Pacing.{attempts_of}
+use Rattle.ih_planning.specs.Rounds.{HoldsBest, IsRound, SearchTask, round_line}
+use Rattle.ih_planning.specs.declared.pacing.Length.TheVariants.{Attempts}
+use Rattle.ih_planning.specs.declared.pacing.Pace.{Pace}
+use Rattle.ih_planning.specs.declared.rounds.RoundNumbers.{RoundNumbers}
 use Rattle.ih_planning.specs.Searching.{ImproveEnds, IsSearch, begun}
 
 -- OUT has the solution of a feasible timetable that keeps the start's choices before the freeze day and, where the
@@ -30,12 +36,13 @@ pub record IsImproved (c : ImproveCall) (old new : Option Names) (text : List �
   pub given : Timetable
   pub inputs : HasInputs old (improve_inputs c) instance given
   pub settings : Settings
-  pub are_settings : AreSettingsOf instance (given_settings c) settings
+  pub processors : ℕ
+  pub are_settings : AreSettingsOf instance c.settings processors settings
   pub start : Timetable
   pub started : start ≡ begun c.start.fill settings.hard instance given
   pub best : Timetable
   pub feasible : feasible (bill_of instance best) ≡ true
-  pub follows : MayFollow instance start c.start.freeze start best
+  pub follows : MayFollow instance start c.settings.freeze start best
   pub no_dearer : IsNoDearer instance given best
   pub written : IfTold (IsWritten c.out (solution instance best)) old new
   pub told : (before : List ℕ) × (text ≡ before ++ report instance.weights (bill_of instance best))
@@ -46,37 +53,76 @@ DoneCallsHaveImproved =
     (c : ImproveCall) (old new : Option Names) (text : List ℕ) → ImproveEnds c old new Done text
     → IsImproved c old new text
 
--- one that finds none leaves each file as it was
-abbrev pub NoneFoundChangesNothing : Type 0
-NoneFoundChangesNothing =
+-- The draft has the solution of the timetable, where a file is named for it, and each other file has what it had.
+abbrev pub IsDraft : Option Text → Draft → Timetable → Names → Names → Type 0
+IsDraft None I P old new = Unchanged old new
+IsDraft (Some name) I P old new = IsWritten name (solution I P) old new
+
+-- a timetable of the call's instance is drafted, which isn't feasible
+pub record IsDrafted (c : ImproveCall) (old new : Option Names) : Type 0 where
+  pub instance : Draft
+  pub given : Timetable
+  pub inputs : HasInputs old (improve_inputs c) instance given
+  pub best : Timetable
+  pub infeasible : feasible (bill_of instance best) ≡ false
+  pub written : IfTold (IsDraft c.draft instance best) old new
+
+-- a call that finds none leaves each file as it was, but for the draft
+abbrev pub NoneFoundLeavesADraft : Type 0
+NoneFoundLeavesADraft =
     (c : ImproveCall) (old new : Option Names) (text : List ℕ) → ImproveEnds c old new NoneFound text
-    → IfTold Unchanged old new
+    → IsDrafted c old new
 
 -- rounds that are over leave the best of them, however many they are
 abbrev pub RoundsLeaveTheirBest : Type 0
 RoundsLeaveTheirBest =
-    (out : List ℕ) (v w : ImproverState) (rs : List OutcomeState) (old new : Names) → v.rounds ≡ 0
-    → AreSteps (IsRound Leaves out) v rs w → AreAllWritten rs old new
-    → HoldsBest out w old new
+    (t : SearchTask) (v w : ImproverState) (rs : List OutcomeState) (old new : Names) → v.rounds ≡ 0
+    → AreSteps (IsRound Leaves t) v rs w → AreAllWritten rs old new
+    → HoldsBest t.out w old new
 
--- what is told of as many rounds is the same but for the heats
-abbrev pub DifferInHeats : List OutcomeState → List OutcomeState → Type 0
-DifferInHeats [] [] = Unit {0}
-DifferInHeats (o ∷ os) (p ∷ ps) =
-    ((v : ImproverState) × (h : ℕ) × (k : ℕ) × (o.text ≡ round_line v h) × (p.text ≡ round_line v k))
-    × DifferInHeats os ps
-DifferInHeats os ps = ⊥
+-- what is told of as many rounds is the same but for the heats and what the clock said
+abbrev pub DifferInNumbers : Pace → List OutcomeState → List OutcomeState → Type 0
+DifferInNumbers pace [] [] = Unit {0}
+DifferInNumbers pace (o ∷ os) (p ∷ ps) =
+    ((v : ImproverState) × (h : RoundNumbers) × (k : RoundNumbers) × (o.text ≡ round_line pace v h)
+    × (p.text ≡ round_line pace v k))
+    × DifferInNumbers pace os ps
+DifferInNumbers pace os ps = ⊥
 
--- As many rounds of one search, each led by determined workers, lead to the same and leave the same in each file; and
--- what is told of them differs at most in the heats.
+-- rounds with these spans lead from v to w, the last one first
+abbrev pub AreRounds : (may_leave : LegState → ℕ → Timetable → Type 0) → SearchTask → ImproverState → List Span
+    → List OutcomeState → ImproverState → Type 0
+AreRounds may_leave t v [] [] w = w ≡ v
+AreRounds may_leave t v (s ∷ ss) (o ∷ os) w =
+    (u : ImproverState) × AreRounds may_leave t v ss os u
+    × ((r : IsRound may_leave t u o w) × (r.span ≡ s))
+AreRounds may_leave t v ss os w = ⊥
+
+-- what rounds leave that were made twice
+pub record IsTheSame (t : SearchTask) (rs ss : List OutcomeState) (w x : ImproverState) : Type 0 where
+  pub search : w ≡ x
+  pub told : DifferInNumbers t.pace rs ss
+  pub files : (old new other : Names) → AreAllWritten rs old new → AreAllWritten ss old other → Unchanged new other
+
+-- Rounds of one search with the same spans, each led by determined workers, lead to the same and leave the same in each
+-- file; and what is told of them differs at most in the heats and in what the clock said.
 abbrev pub RoundsLeaveTheSame : (may_leave : LegState → ℕ → Timetable → Type 0) → Type 0
 RoundsLeaveTheSame may_leave =
-    IsDetermined may_leave → (out : List ℕ) (v w x : ImproverState) (rs ss : List OutcomeState) → length rs ≡ length ss
-    → AreSteps (IsRound may_leave out) v rs w → AreSteps (IsRound may_leave out) v ss x
-    → (w ≡ x) × DifferInHeats rs ss
-    × ((old new other : Names) → AreAllWritten rs old new → AreAllWritten ss old other → Unchanged new other)
+    IsDetermined may_leave → (t : SearchTask) (v w x : ImproverState) (spans : List Span) (rs ss : List OutcomeState)
+    → AreRounds may_leave t v spans rs w → AreRounds may_leave t v spans ss x
+    → IsTheSame t rs ss w x
 
--- the words and the files determine the search of a call: its instance, its start and its settings
+-- where attempts are given, as many rounds of one search have the same spans: so they lead to the same
+abbrev pub AttemptsLeaveTheSame : (may_leave : LegState → ℕ → Timetable → Type 0) → Type 0
+AttemptsLeaveTheSame may_leave =
+    IsDetermined may_leave → (t : SearchTask) (v w x : ImproverState) (rs ss : List OutcomeState)
+    → t.pace.length ≡ Attempts (attempts_of t.pace.length) → length rs ≡ length ss
+    → AreSteps (IsRound may_leave t) v rs w → AreSteps (IsRound may_leave t) v ss x
+    → IsTheSame t rs ss w x
+
+-- the words, the files and the number of processors determine the search of a call: its instance, its start and its
+-- settings
 abbrev pub SearchesAreDetermined : Type 0
 SearchesAreDetermined =
-    (c : ImproveCall) (files : Names) (v w : ImproverState) → IsSearch (Some files) c v → IsSearch (Some files) c w → v ≡ w
+    (c : ImproveCall) (files : Names) (v w : ImproverState) (one : IsSearch (Some files) c v)
+    (other : IsSearch (Some files) c w) → one.from.processors ≡ other.from.processors → v ≡ w

@@ -1,8 +1,6 @@
-pub mod Bound
 pub mod Calls
 pub mod Ends
-pub mod Improve
 pub mod Laws
+pub mod Pacing
 pub mod Rounds
 pub mod Searching
-pub mod View

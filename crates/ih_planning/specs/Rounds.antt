@@ -1,5 +1,5 @@
 -- The rounds of a search: what each leads to, what it writes and what it tells.
-use Rattle.std.specs.Prelude.{◌≡◌, ℕ, ◌*◌, ◌<◌, ◌||◌, Bool, true, false, nat_eq, List, [], ◌∷◌, ◌++◌, codes, decimal, if◌then◌else◌}
+use Rattle.std.specs.Prelude.{◌≡◌, ℕ, ◌*◌, ◌<◌, ◌≤◌, ◌||◌, Bool, true, false, nat_eq, List, [], ◌∷◌, ◌++◌, Option, Some, None, codes, decimal, if◌then◌else◌}
 use Rattle.std.specs.Fmt.{signed_decimal}
 use Rattle.ih_tables.specs.Bills.{cost, feasible}
 use Rattle.ih_plan.specs.Timetable.{Timetable}
@@ -11,12 +11,23 @@ use Rattle.ih_improve.specs.Better.{is_better}
 use Rattle.ih_improve.specs.Following.{IsNoDearer, MayFollow}
 use Rattle.ih_improve.specs.ImproverState.{ImproverState, Leads, led_to}
 use Rattle.ih_improve.specs.Legs.{LegState}
-use Rattle.ih_improve.specs.Settings.{attempts_through}
+use Rattle.ih_improve.specs.declared.spans.Span.{Span}
 use Rattle.ih_answers.specs.declared.status.Role.TheVariants.{Out}
 use Rattle.ih_answers.specs.declared.status.Status.TheVariants.{Done, NoneFound}
 use Rattle.ih_answers.specs.Ends.{Unchanged}
 use Rattle.ih_answers.specs.Texts.{none_found_text}
 use Rattle.ih_frame.specs.Outcomes.{OutcomeState, WritingState, says}
+use Rattle.ih_planning.specs.Pacing.{IsNextSpan, least_rounds}
+use Rattle.ih_planning.specs.declared.pacing.Length.{Length}
+use Rattle.ih_planning.specs.declared.pacing.Length.TheVariants.{Attempts, Seconds}
+use Rattle.ih_planning.specs.declared.pacing.Pace.{Pace}
+use Rattle.ih_planning.specs.declared.rounds.RoundNumbers.{RoundNumbers}
+
+-- what a search goes by: the file of the best, the one of a draft, where there is one, and how long it goes on
+pub record SearchTask : Type 0 where
+  pub out : List ℕ
+  pub draft : Option (List ℕ)
+  pub pace : Pace
 
 -- ---- what is written
 
@@ -26,7 +37,7 @@ is_new v w =
     nat_eq v.rounds 0
     || is_better v.settings.hard v.instance.weights (bill_of v.instance w.kept) (bill_of v.instance v.kept)
 
--- the solution of the best so far, for OUT
+-- the solution of the best so far, for OUT or for a draft
 abbrev pub best_writing : List ℕ → ImproverState → WritingState
 best_writing out v = record { role = Out; name = out; bytes = solution v.instance v.kept }
 
@@ -44,36 +55,57 @@ best_text v =
     then codes "cost " ++ signed_decimal (cost v.instance.weights (bill_of v.instance v.kept))
     else codes "none yet"
 
+-- which round it is; where attempts are given, of how many
+abbrev pub number_text : Length → ℕ → ℕ → List ℕ
+number_text (Attempts n) rounds made = decimal made ++ (codes " of " ++ decimal rounds)
+number_text (Seconds s) rounds made = decimal made
+
+-- by the clock, how much time is left, and how many attempts were made a second
+abbrev pub time_text : Length → RoundNumbers → List ℕ
+time_text (Attempts n) told = []
+time_text (Seconds s) told =
+    codes ", " ++ (decimal told.left ++ (codes " s left, " ++ (decimal told.rate ++ codes " attempts a second")))
+
 -- the line of the round that is over, with the attempts of all workers so far
-abbrev pub round_line : ImproverState → ℕ → List ℕ
-round_line v heat =
-    codes "round " ++ (decimal v.rounds ++ (codes " of " ++ (decimal v.settings.rounds ++ (codes ": "
-    ++ (decimal (v.settings.workers * attempts_through v.settings v.rounds) ++ (codes " attempts, "
-    ++ (best_text v ++ (codes ", heat " ++ (decimal heat ++ codes "\n")))))))))
+abbrev pub round_line : Pace → ImproverState → RoundNumbers → List ℕ
+round_line p v told =
+    codes "round " ++ (number_text p.length p.rounds v.rounds ++ (codes ": "
+    ++ (decimal (v.settings.workers * v.attempts) ++ (codes " attempts, "
+    ++ (best_text v ++ (codes ", heat " ++ (decimal told.heat ++ (time_text p.length told ++ codes "\n"))))))))
 
 -- ---- what it comes to
 
 -- A round leads a search from v to w, with workers that leave what they may. Its best keeps the start's choices before
 -- the freeze day, and is no dearer than the start and than the best before it.
-pub record IsRound (may_leave : LegState → ℕ → Timetable → Type 0) (out : List ℕ) (v : ImproverState)
+pub record IsRound (may_leave : LegState → ℕ → Timetable → Type 0) (t : SearchTask) (v : ImproverState)
     (o : OutcomeState) (w : ImproverState) : Type 0 where
-  pub next : w ≡ led_to v w.kept
-  pub led : Leads may_leave v w.kept
+  pub span : Span
+  pub paced : IsNextSpan t.pace.length t.pace.rounds v span
+  pub next : w ≡ led_to v span w.kept
+  pub led : Leads may_leave v span w.kept
   pub follows : MayFollow v.instance v.start v.settings.freeze v.start w.kept
   pub no_dearer : IsNoDearer v.instance v.kept w.kept
   pub same : is_new v w ≡ false → w.kept ≡ v.kept
-  pub heat : ℕ
+  pub numbers : RoundNumbers
   pub comes :
-      o ≡ record { writes = best_writes out (is_new v w) w; text = round_line w heat; status = Done }
+      o ≡ record { writes = best_writes t.out (is_new v w) w; text = round_line t.pace w numbers; status = Done }
 
--- what a search comes to once all rounds are over: the report on the best, or that none is feasible
-abbrev pub searched : ImproverState → OutcomeState
-searched v =
+-- the best of what was met goes to the draft, where a file is named for that
+abbrev pub draft_writes : Option (List ℕ) → ImproverState → List WritingState
+draft_writes None v = []
+draft_writes (Some name) v = best_writing name v ∷ []
+
+-- what a search comes to once it is over: the report on the best; or that none is feasible, and the draft
+abbrev pub searched : Option (List ℕ) → ImproverState → OutcomeState
+searched draft v =
     if feasible (bill_of v.instance v.kept)
-    then says Done (report v.instance.weights (bill_of v.instance v.kept)) else says NoneFound none_found_text
+    then says Done (report v.instance.weights (bill_of v.instance v.kept))
+    else record { writes = draft_writes draft v; text = none_found_text; status = NoneFound }
 
-abbrev pub IsSearched : ImproverState → OutcomeState → Type 0
-IsSearched v o = o ≡ searched v
+-- A search that is over comes to that: where attempts are given, all rounds are made, and by the clock at least one.
+pub record IsSearched (t : SearchTask) (v : ImproverState) (o : OutcomeState) : Type 0 where
+  pub over : least_rounds t.pace.length t.pace.rounds ≤ v.rounds
+  pub comes : o ≡ searched t.draft v
 
 -- ---- what rounds leave
 

@@ -9,12 +9,20 @@ ghost use Rattle.ih_planning.specs.Calls.{HasLawfulSettings, app_for, app_named,
 ghost use Rattle.ih_planning.specs.Calls.{program_app};
 ghost use Rattle.ih_planning.specs.Ends.{CallEnds, HasFewPuts};
 
-use crate::bound::{Bound, bound_description, read_bound};
-use crate::improve_words::{Improve, improve_description, read_improve};
+pub mod bound;
+pub mod check;
+mod common;
+pub mod improve_words;
+pub mod view;
+
+use crate::command::bound::{BOUND, Bound, read_bound};
+use crate::command::check::{CHECK, Check, read_check};
+use crate::command::improve_words::{IMPROVE, Improve, read_improve};
+use crate::command::view::{VIEW, View, read_view};
 use crate::improving::improve;
-use crate::view::{View, read_view, view_description};
+use crate::watches::Watch;
 use ih_answers::Status;
-use ih_arguments::arguments::with_command;
+use ih_arguments::arguments::{Description, with_commands};
 use ih_arguments::explaining::{NoCall, explained, refused};
 use ih_shelf::{Shelf, Sink};
 use std::alloc::{AllocError, Global};
@@ -31,7 +39,11 @@ pub enum Command<'a> {
     View(View<'a>),
     /// Says what no feasible timetable costs less than.
     Bound(Bound<'a>),
+    /// Says which hard rules a solution breaks and what it costs.
+    Check(Check<'a>),
 }
+
+const COMMANDS: [Description<'static, 'static>; 4] = [IMPROVE, VIEW, BOUND, CHECK];
 
 // All commands, for the help on the program.
 fn program_description<'a>(alloc: Global) -> Result<clap::Command<'a>, AllocError>
@@ -39,13 +51,11 @@ fn program_description<'a>(alloc: Global) -> Result<clap::Command<'a>, AllocErro
     ensures simple { is_simple_and_free program_app ≡ true }
 {
     let empty = clap::Command::new(alloc, "ih_planner")
-        .about("Makes timetables better, shows them and bounds their cost")
+        .about("Makes timetables better, shows, checks and bounds them")
         .no_binary_name(true)
         .subcommand_required(true)
         .arg_required_else_help(true);
-    let improve = with_command(Ok(empty), improve_description(alloc));
-    let view = with_command(improve, view_description(alloc));
-    with_command(view, bound_description(alloc))
+    with_commands(alloc, empty, &COMMANDS)
 }
 
 // What is said of words of which the first is no command's name.
@@ -71,6 +81,7 @@ fn read_named<'a>(alloc: Global, name: &str, words: &'a [String]) -> Result<Comm
         "improve" => Ok(Command::Improve(read_improve(alloc, words)?)),
         "view" => Ok(Command::View(read_view(alloc, words)?)),
         "bound" => Ok(Command::Bound(read_bound(alloc, words)?)),
+        "check" => Ok(Command::Check(read_check(alloc, words)?)),
         _ => Err(explained_commands(alloc, words)),
     }
 }
@@ -83,7 +94,8 @@ fn read_named<'a>(alloc: Global, name: &str, words: &'a [String]) -> Result<Comm
 ///
 /// - `Help` where the words ask for help, and `Refused` where no command has them: the first word is no command's name,
 ///   `clap` finds a fault, two file names are equal, a freeze day comes without the file of a start or with `--fill`,
-///   the heat would rise, the workers together would make more than `MAX_ATTEMPTS` attempts, or `--from` names no day.
+///   seconds come with attempts, or `--empty` with `--start` or `--fill`, the heat would rise, the workers together would
+///   make more than `MAX_CALL_ATTEMPTS` attempts, or `--from` names no day.
 /// - `OutOfMemory` where memory ran out.
 pub fn read_words<'a>(alloc: Global, words: &'a [String]) -> Result<Command<'a>, NoCall>
     ensures ok { IfOk result (λ c. call_of (map string_bytes words.entry.now) ≡ Some (command_call c)) }
@@ -99,12 +111,13 @@ pub fn read_words<'a>(alloc: Global, words: &'a [String]) -> Result<Command<'a>,
 }
 
 /// Does what the command asks for, and says how that ended.
-pub fn perform<R: Files + Print + Threads + Wait + Sync, S: Shelf, O: Sink>(
+pub(crate) fn perform<R: Files + Print + Threads + Wait + Sync, S: Shelf, O: Sink, W: Watch>(
     rt: &R,
     alloc: Global,
     command: &Command<'_>,
     shelf: &mut S,
     out: &mut O,
+    watch: W,
 ) -> Status
     requires { HasLawfulSettings command.now }
     ensures ends { Ends (CallEnds (command_call command.now) (S.names shelf.old) (S.names shelf.new))
@@ -116,8 +129,9 @@ pub fn perform<R: Files + Print + Threads + Wait + Sync, S: Shelf, O: Sink>(
         (S.write_faults shelf.new) (O.faults out.old) (O.faults out.new) result }
 {
     match command {
-        Command::Improve(call) => improve(rt, alloc, call, shelf, out),
+        Command::Improve(call) => improve(rt, alloc, call, shelf, out, watch),
         Command::View(call) => ih_frame::perform(rt, alloc, call, shelf, out),
         Command::Bound(call) => ih_frame::perform(rt, alloc, call, shelf, out),
+        Command::Check(call) => ih_frame::perform(rt, alloc, call, shelf, out),
     }
 }

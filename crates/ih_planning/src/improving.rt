@@ -7,25 +7,41 @@ ghost use Rattle.ih_inputs.specs.Reading.{ArePlans, files_of};
 ghost use Rattle.ih_answers.specs.{Answers.HasShelfCause, Ends.Ends, Ends.HasCause, Ends.Received};
 ghost use Rattle.ih_answers.specs.{Texts.ReceivedPart};
 ghost use Rattle.ih_frame.specs.Steps.{ArePutsAtMost};
-ghost use Rattle.ih_improve.specs.Settings.{IsLawful};
-ghost use Rattle.ih_planning.specs.Improve.{improve_call, improve_inputs, widest_settings};
+ghost use Rattle.ih_planning.specs.Calls.Improve.{IsLawfulCall, improve_call, improve_inputs};
+ghost use Rattle.ih_planning.specs.Pacing.{most_rounds};
 ghost use Rattle.ih_planning.specs.Searching.{ImproveEnds, IsSearchFrom, begun};
 
-use crate::improve_words::{Improve, given_settings};
+use crate::command::improve_words::Improve;
 use crate::rounds::Search;
+use crate::times::Times;
+use crate::watches::Watch;
 use ih_answers::{Status, conclude, conclude_memory, read_or_answer};
 use ih_fill::fill;
 use ih_frame::go_on;
 use ih_improve::{Improver, is_better};
 use ih_inputs::{InputNames, Inputs};
-use ih_plan::Plan;
+use ih_plan::{MAX_WORKERS, Plan};
 use ih_shelf::{Shelf, Sink};
 use ih_tables::Instance;
 use ih_validate::bill;
 use std::alloc::{AllocError, Global};
 use std::rt::Files;
 use std::sync::Wait;
-use std::thread::Threads;
+use std::thread::{Threads, available_parallelism};
+
+// How many workers there are where the number of processors can't be told.
+const UNTOLD_PROCESSORS: u32 = 4;
+
+// How many processors there are, at most as many as there may be workers.
+fn processors<R: Threads>(rt: &R) -> u32
+    ensures some { 1 ≤ result }
+    ensures few { result ≤ MAX_WORKERS }
+{
+    match available_parallelism(rt) {
+        Ok(count) => (count.get().clamp(1, MAX_WORKERS as usize)) as u32,
+        Err(_) => UNTOLD_PROCESSORS,
+    }
+}
 
 // The fill of the timetable that is given, where the search starts from that.
 fn better_fill(
@@ -52,28 +68,38 @@ fn better_fill(
 }
 
 // The search of a call from what the files gave, before its first round.
-fn search_from<'i, 'o>(
+fn search_from<'i, 'o, W: Watch>(
     alloc: Global,
     call: &Improve<'o>,
     inputs: &'i Inputs,
-) -> Result<Search<'i, 'o>, AllocError>
-    requires lawful { IsLawful (widest_settings (improve_call call.now)) }
+    processors: u32,
+    times: Times,
+    watch: W,
+) -> Result<Search<'i, 'o, W>, AllocError>
+    requires lawful { IsLawfulCall (improve_call call.now) }
+    requires some { 1 ≤ processors }
+    requires few { processors ≤ MAX_WORKERS }
     requires plans { ArePlans inputs.now }
     ensures search { IfOk result (λ s. IsSearchFrom inputs.entry.now.inst.value.draft inputs.entry.now.plan
         (improve_call call.entry.now) s.improver) }
     ensures instance { IfOk result (λ s. s.improver.instance ≡ s.inst.now.draft) }
-    ensures rounds { IfOk result (λ s. s.rounds ≡ call.entry.now.rounds) }
+    ensures draft { IfOk result (λ s. s.draft ≡ call.entry.now.draft) }
+    ensures pace { IfOk result (λ s. s.pace ≡ call.entry.now.pace) }
+    ensures times { IfOk result (λ s. s.times ≡ times) }
     ensures out { IfOk result (λ s. s.out ≡ call.entry.now.out) }
 {
     let inst = &*inputs.inst;
-    let settings = given_settings(call).settings(inst);
+    let settings = call.settings.settings(inst, processors);
     let filled = better_fill(alloc, inst, settings.hard, call.start.fill, &inputs.plan)?;
     let start = filled.as_ref().unwrap_or(&inputs.plan);
     let improver = Improver::new(alloc, inst, start, &settings)?;
     Ok(Search {
         inst,
         out: call.out,
-        rounds: call.rounds,
+        draft: call.draft,
+        pace: call.pace,
+        times,
+        watch,
         improver,
     })
 }
@@ -92,29 +118,31 @@ fn names_of<'a>(call: &Improve<'a>) -> InputNames<'a>
 }
 
 /// Reads the instance and the start, and searches in rounds. Writes the best so far after the first round that has a
-/// feasible one, and after each that found a cheaper one.
-pub fn improve<R: Files + Print + Threads + Wait + Sync, S: Shelf, O: Sink>(
+/// feasible one, and after each that found a cheaper one. By the clock it asks the watch between rounds.
+pub(crate) fn improve<R: Files + Print + Threads + Wait + Sync, S: Shelf, O: Sink, W: Watch>(
     rt: &R,
     alloc: Global,
     call: &Improve<'_>,
     shelf: &mut S,
     out: &mut O,
+    mut watch: W,
 ) -> Status
-    requires { IsLawful (widest_settings (improve_call call.now)) }
+    requires { IsLawfulCall (improve_call call.now) }
     ensures ends { Ends (ImproveEnds (improve_call call.now) (S.names shelf.old) (S.names shelf.new))
         (HasShelfCause S.Shelf shelf.old shelf.new)
         (Received result (O.text out.old) (O.text out.new) (O.faults out.old) (O.faults out.new))
         (ReceivedPart (O.text out.old) (O.text out.new) (O.lacks out.old) (O.lacks out.new)) result }
-    ensures few { IfTold (ArePutsAtMost (call.now.rounds + 1)) (O.puts out.old) (O.puts out.new) }
+    ensures few { IfTold (ArePutsAtMost (most_rounds call.now.pace.length call.now.pace.rounds + 1)) (O.puts out.old) (O.puts out.new) }
     ensures cause { HasCause (S.read_faults shelf.old) (S.read_faults shelf.new) (S.write_faults shelf.old)
         (S.write_faults shelf.new) (O.faults out.old) (O.faults out.new) result }
 {
+    let times = Times::begin(&call.pace, &mut watch);
     let inputs = match read_or_answer(rt, alloc, &names_of(call), shelf) {
         Ok(inputs) => inputs,
         Err(answer) => return conclude(rt, out, &answer),
     };
-    match search_from(alloc, call, &inputs) {
-        Ok(mut search) => go_on(rt, alloc, &mut search, call.rounds, shelf, out),
+    match search_from(alloc, call, &inputs, processors(rt), times, watch) {
+        Ok(mut search) => go_on(rt, alloc, &mut search, call.pace.most_rounds(), shelf, out),
         Err(_) => conclude_memory(rt, out),
     }
 }

@@ -1,15 +1,15 @@
 //! The program for planners: one call that searches for better timetables and shows them.
 #![tactic(auto)]
 
-mod bound;
 mod command;
-mod improve_words;
 mod improving;
 mod laws;
 mod limits;
+mod pacing;
 mod rounds;
 mod running;
-mod view;
+mod times;
+mod watches;
 
 pub use laws::{
     determined_workers_leave_the_same, done_calls_have_improved, rounds_leave_their_best,
@@ -17,3 +17,4 @@ pub use laws::{
 };
 pub use limits::limits_are_these;
 pub use running::run_planner;
+pub use watches::{ClockWatch, TestWatch, Watch};

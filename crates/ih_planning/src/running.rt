@@ -8,6 +8,7 @@ ghost use Rattle.ih_planning.specs.Calls.{call_of};
 ghost use Rattle.ih_planning.specs.Ends.{HasFewPuts, IsComplete, IsUntouched, Leaves};
 
 use crate::command::{perform, read_words};
+use crate::watches::Watch;
 use ih_answers::{Answer, Status, conclude, conclude_memory};
 use ih_arguments::explaining::NoCall;
 use ih_shelf::{Shelf, Sink};
@@ -16,14 +17,15 @@ use std::rt::Files;
 use std::sync::Wait;
 use std::thread::Threads;
 
-/// Does all that the program does, by the words after its name. A search puts out a line after each round. At last one
-/// text is put out; where a page was written, there is none.
-pub fn run_planner<R: Files + Print + Threads + Wait + Sync, S: Shelf, O: Sink>(
+/// Does all that the program does, by the words after its name. A search puts out a line after each round, and asks the
+/// watch between rounds. At last one text is put out; where a page was written, there is none.
+pub fn run_planner<R: Files + Print + Threads + Wait + Sync, S: Shelf, O: Sink, W: Watch>(
     rt: &R,
     alloc: Global,
     words: &[String],
     shelf: &mut S,
     out: &mut O,
+    watch: W,
 ) -> Status
     // What the files then hold, and the text that was put out, by the call that the words name and the status. Where
     // the shelf or the sink does not tell what it holds, nothing is claimed of that.
@@ -51,7 +53,7 @@ pub fn run_planner<R: Files + Print + Threads + Wait + Sync, S: Shelf, O: Sink>(
         (Rose (O.faults out.old) (O.faults out.new)) result }
 {
     match read_words(alloc, words) {
-        Ok(command) => perform(rt, alloc, &command, shelf, out),
+        Ok(command) => perform(rt, alloc, &command, shelf, out, watch),
         Err(NoCall::Help(text)) => conclude(
             rt,
             out,

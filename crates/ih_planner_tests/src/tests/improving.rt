@@ -9,25 +9,25 @@ use crate::tests::program::goes;
 const ON_THE_WARD: &str = "
 > lay ward uncovered
 > fail-write 2 0
-> says 0 improve i o --seed 0 --workers 1 --attempts 1000 --rounds 2 --hot 0 --cold 0
+> says 0 improve i o --seed 0 --workers 1 --attempts 1000 --rounds 2 --hot 0 --cold 0 --empty
 round 1 of 2: 500 attempts, cost 12, heat 0
 round 2 of 2: 1000 attempts, cost 12, heat 0
 report 0 0 0 0 0 0 0 0 0, 0 1 1 0 0 0 0 0, 12
 > is o
 = covered
 > # the fault comes up with the next write
-> says 6 improve i p --seed 0 --workers 1 --attempts 1000 --rounds 2 --hot 0 --cold 0
+> says 6 improve i p --seed 0 --workers 1 --attempts 1000 --rounds 2 --hot 0 --cold 0 --empty
 cannot write p
 > alike
-improve i o --seed 0 --workers 1 --attempts 1000 --rounds 2 --hot 0 --cold 0
+improve i o --seed 0 --workers 1 --attempts 1000 --rounds 2 --hot 0 --cold 0 --empty
 improve i p --seed 0 --workers 1 --attempts 1000 --rounds 2 --hot 0 --cold 0 --start s
 > same o p
-> cut 1 6 improve i q --seed 0 --workers 1 --attempts 1000 --rounds 2 --hot 0 --cold 0
+> cut 1 6 improve i q --seed 0 --workers 1 --attempts 1000 --rounds 2 --hot 0 --cold 0 --empty
 > is q
 = covered
-> cut 2 6 improve i q --seed 0 --workers 1 --attempts 1000 --rounds 2 --hot 0 --cold 0
+> cut 2 6 improve i q --seed 0 --workers 1 --attempts 1000 --rounds 2 --hot 0 --cold 0 --empty
 round 1 of 2: 500 attempts, cost 12, heat 0
-> cut 3 6 improve i q --seed 0 --workers 1 --attempts 1000 --rounds 2 --hot 0 --cold 0
+> cut 3 6 improve i q --seed 0 --workers 1 --attempts 1000 --rounds 2 --hot 0 --cold 0 --empty
 round 1 of 2: 500 attempts, cost 12, heat 0
 round 2 of 2: 1000 attempts, cost 12, heat 0
 > store r
@@ -77,7 +77,7 @@ report 0 0 0 0 0 0 0 0 0, 1 2 3 0 2 0 1 0, 95
 "max_surgery_time":[0,0]
 > store o
 an older plan
-> says 5 improve i o --seed 0 --workers 2 --attempts 200 --rounds 2 --hot 0 --cold 0
+> says 5 improve i o --seed 0 --workers 2 --attempts 200 --rounds 2 --hot 0 --cold 0 --empty
 round 1 of 2: 200 attempts, none yet, heat 0
 round 2 of 2: 400 attempts, none yet, heat 0
 none found
@@ -159,14 +159,14 @@ improve i p --seed 7 --workers 64 --attempts 50 --rounds 4 --fill
 > change i two
 \"open_operating_theater\":30
 \"open_operating_theater\":30000
-> says 0 improve i o --seed 7 --workers 1 --attempts 2000 --rounds 2
+> says 0 improve i o --seed 7 --workers 1 --attempts 2000 --rounds 2 --empty
 round 1 of 2: 1000 attempts, cost …
 cost 30108
 > alike
-improve i o --seed 7 --workers 1 --attempts 2000 --rounds 2
-improve i p --seed 7 --workers 1 --attempts 2000 --rounds 2 --hot 10 --cold 1 --hard 60000
+improve i o --seed 7 --workers 1 --attempts 2000 --rounds 2 --empty
+improve i p --seed 7 --workers 1 --attempts 2000 --rounds 2 --hot 10 --cold 1 --hard 60000 --empty
 > same o p
-> says 5 improve i o --seed 7 --workers 1 --attempts 2000 --rounds 2 --hard 1000
+> says 5 improve i o --seed 7 --workers 1 --attempts 2000 --rounds 2 --hard 1000 --empty
 round 1 of 2: 1000 attempts, none yet, heat …
 none found
 > same o p
@@ -205,4 +205,43 @@ improve k o --seed 0 --workers 1 --attempts 1 --start s --freeze 56
 #[test]
 fn words_of_improve(rt: HostRuntime) {
     goes(&rt, rt.alloc(), WORDS);
+}
+
+// Where no feasible timetable is met, the draft gets the best of the others, and OUT stays. Where one is, there is none.
+const DRAFTS: &str = r#"
+> lay two uncovered
+> says 0 improve i o --attempts 2000 --workers 1 --start s --draft d
+round 1 of 20: 100 attempts, …
+> no d
+> change i two
+"max_surgery_time":[100,100]
+"max_surgery_time":[0,0]
+> store o
+an older plan
+> says 5 improve i o --attempts 200 --rounds 2 --workers 2 --hot 0 --cold 0 --empty --draft d
+round 1 of 2: 200 attempts, none yet, heat 0
+round 2 of 2: 400 attempts, none yet, heat 0
+none found
+> is o
+an older plan
+> 9 check i d
+…
+> anew
+> lay two uncovered
+> change i two
+"max_surgery_time":[100,100]
+"max_surgery_time":[0,0]
+> fail-write 1 0
+> says 6 improve i o --attempts 200 --rounds 2 --workers 2 --hot 0 --cold 0 --empty --draft e
+round 1 of 2: …
+cannot write e
+> each 1 error: …'--help'.
+improve i o --draft o
+improve i o --draft i
+improve i o --start s --draft s
+"#;
+
+#[test]
+fn a_draft_is_left(rt: HostRuntime) {
+    goes(&rt, rt.alloc(), DRAFTS);
 }

@@ -34,7 +34,7 @@ Makes timetables…
 > 6 view i s p
 cannot write p
 > is p
-<!DOCTYPE
+<!doctype
 ";
 
 #[test]
@@ -42,50 +42,31 @@ fn calls_without_a_page(rt: HostRuntime) {
     goes(&rt, rt.alloc(), NO_PAGES);
 }
 
-// What pages of the two patients show.
+// What the data of pages of the two patients has.
 const SHOWN: &str = "
-> # a surgery of 0 minutes makes a day one with surgery
-> lay two admitted
-> change i two
-\"surgery_duration\":60
-\"surgery_duration\":0
-> 0 view i s p
-> shows p
-<li><a href=#t0-0>theatre <bdi>t0</bdi>, day 0</a>: open
-<
-> shows p
-<td id=t0-0>0/60<i style=width:0%></i><p> <a href=#p0><bdi>p0</bdi></a> 0&nbsp;<bdi>s0</bdi><td id=t0-1>
-<
-> shows p
-<td id=g0-0>0/100<i style=width:0%></i><p> <a href=#p0><bdi>p0</bdi></a> 0&nbsp;<bdi>t0</bdi><td id=g0-1>
-<
-> shows p
-<li id=p1><bdi>p1</bdi>: optional, day 0 to end, stays 1 day, 40 minutes by surgeon <bdi>s0</bdi>
-<
-> # two on a day stand one after the other, also above the limit
+> # two on a day in one theatre are above its limit, and in a room without a nurse
 > lay two admitted
 > change s admitted
 {\"id\":\"p1\",\"admission_day\":\"none\"}
 {\"id\":\"p1\",\"admission_day\":0,\"room\":\"r1\",\"operating_theater\":\"t0\"}
 > 0 view i s p
 > shows p
-<td id=t0-0 class=x>!100/60<i style=width:100%></i><p> <a href=#p0><bdi>p0</bdi></a> 60&nbsp;<bdi>s0</bdi><p> <a href=#p1><bdi>p1</bdi></a> 40&nbsp;<bdi>s0</bdi><td id=t0-1>
-<
+,\"findings\":{\"costs\":[[[1,1,0,0]],[[2,4,0,2]],[[1,6,0,0],[1,6,2,0]],[],[[1,2,0,0]],[],[],[]],\"rules\":[[],[],[],[[40,2,0,0]],[],[],[],[],[[1,4,1,0],[1,4,1,1],[1,4,1,2]]]},
 > shows p
-<td id=g0-0>100/100<i style=width:100%></i><p> <a href=#p0><bdi>p0</bdi></a> 60&nbsp;<bdi>t0</bdi><p> <a href=#p1><bdi>p1</bdi></a> 40&nbsp;<bdi>t0</bdi><td id=g0-1>
-<
-> # a mandatory patient who is left out stands with window, stay and minutes
-> change i two
-\"surgery_duration\":60
-\"surgery_duration\":1
+,\"stays\":[[0,0,0],[0,1,0]]}</script>
+> # nobody is admitted, a mandatory patient among them
+> lay two admitted
 > change s admitted
 \"admission_day\":0,\"room\":\"r0\",\"operating_theater\":\"t0\"
 \"admission_day\":\"none\"
 > 0 view i s p
 > shows p
-<li id=p0><bdi>p0</bdi>: <b>mandatory</b>, day 0 to 1, stays 5 days, 1 minute by surgeon <bdi>s0</bdi>
-<
-> # a nurse who is off is marked where an empty room is given
+{\"bill\":{\"cost\":122,\"costs\":[0,2,1,0,0,0,0,1],\"rules\":[0,0,0,0,1,0,0,0,0]},
+> shows p
+\"rules\":[[],[],[],[],[[1,0,0,0]],[],[],[],[]]},
+> shows p
+,\"stays\":[null,null]}</script>
+> # a nurse who is off has an empty room
 > change i two
 [{\"day\":0,\"shift\":\"early\",\"max_load\":10},
 [
@@ -94,20 +75,21 @@ const SHOWN: &str = "
 \"nurses\":[{\"id\":\"n1\",\"assignments\":[{\"day\":0,\"shift\":\"early\",\"rooms\":[\"r1\"]}]},
 > 0 view i s p
 > shows p
-<li><a href=#s1-0>room <bdi>r1</bdi>, day 0, <bdi>early</bdi></a>: the nurse is off
-<
+,\"care\":[[0,0,0,0,0,0],[1,null,null,null,null,null]],
 > shows p
-<td id=n1-0 class=x>!0/off <br><bdi>r1</bdi><td id=n1-1>0/10
-> # an id that turns what follows ends where it stands
+\"rules\":[[],[],[],[],[],[],[],[[1,4,1,0]],[]]},
+> # no text of a file or of the call ends the data, whatever it holds
 > change i two
 \"p0\"
-\"p\u{202e}0\"
+\"p</script><b>&\\\"'\u{2028}\u{2029}\u{202e}\"
 > change s admitted
 \"p0\"
-\"p\u{202e}0\"
-> 0 view i s p
+\"p</script><b>&\\\"'\u{2028}\u{2029}\u{202e}\"
+> 0 view i s p --title <Ward>
 > shows p
-<tr id=p0><th><bdi>p\u{202e}0</bdi> <b>*</b><td>
+,\"id\":\"p\\u003c/script\\u003e\\u003cb\\u003e\\u0026\\\"'\\u2028\\u2029\u{202e}\",
+> shows p
+,\"heading\":{\"instance\":\"i\",\"older\":null,\"solution\":\"s\",\"title\":\"\\u003cWard\\u003e\"},
 ";
 
 #[test]

@@ -37,7 +37,7 @@ returns-in_default g c =
     let reads = i.read_faults in
     let left = i.left in
     record {
-      ends = stops steps_to g.P.Steps.ends_as (g.P.Steps.state c.args.steps.now) y c.args.count c.loop.counter (g.P.Steps.left c.loop.steps)
+      ends = stops steps_to (g.P.Steps.ends_as (g.P.Steps.task c.args.steps.now)) (g.P.Steps.state c.args.steps.now) y c.args.count c.loop.counter (g.P.Steps.left c.loop.steps)
           (g.S.Shelf.names first) (g.S.Shelf.names old) (g.S.Shelf.names new) (g.O.Sink.text c.args.out.now) (g.O.Sink.text c.loop.out) i.underway i.left
           c.step-made.result (g.S.Shelf.read_faults first) (g.S.Shelf.read_faults old) (g.S.Shelf.read_faults new) (g.S.Shelf.write_faults first)
           (g.S.Shelf.write_faults old) (g.S.Shelf.write_faults new) (g.O.Sink.faults c.args.out.now) (g.O.Sink.faults c.loop.out)
@@ -74,7 +74,7 @@ loop-preserved g c =
     let fewer = c.step-made.ensures.left in
     let same = c.finish.ensures.reads in
     record {
-      underway = underway-next steps_to g.P.Steps.ends_as (g.P.Steps.state c.args.steps.now) y c.args.count c.loop.counter (g.P.Steps.left c.loop.steps)
+      underway = underway-next steps_to (g.P.Steps.ends_as (g.P.Steps.task c.args.steps.now)) (g.P.Steps.state c.args.steps.now) y c.args.count c.loop.counter (g.P.Steps.left c.loop.steps)
           (g.S.Shelf.names c.args.shelf.now) (g.S.Shelf.names old) (g.S.Shelf.names new) (g.O.Sink.text c.args.out.now) before i.underway i.left
           c.step-made.result z (subst (λ t. IfOk c.step-made.result (λ o. g.P.Steps.steps_to t y (outcome_of o) z)) i.same c.step-made.ensures.steps) after whole;
       same = c.step-made.ensures.same ∙ i.same;
@@ -95,10 +95,12 @@ returns-clause-ends g c =
     let first = c.args.shelf.now in
     let same = c.finish-2.ensures.reads in
     let left = i.left in
-    ends (g.P.Steps.steps_to (g.P.Steps.task c.args.steps.now)) g.P.Steps.ends_as (g.P.Steps.state c.args.steps.now) (g.P.Steps.state c.loop.steps)
+    ends (g.P.Steps.steps_to (g.P.Steps.task c.args.steps.now)) (g.P.Steps.ends_as (g.P.Steps.task c.args.steps.now)) (g.P.Steps.state c.args.steps.now) (g.P.Steps.state c.loop.steps)
     c.args.count c.loop.counter (g.P.Steps.left c.loop.steps) (g.S.Shelf.names first) (g.S.Shelf.names old) (g.S.Shelf.names new)
     (g.O.Sink.text c.args.out.now) (g.O.Sink.text c.loop.out) i.underway i.left c.end-made.result (g.S.Shelf.read_faults first)
     (g.S.Shelf.read_faults old) (g.S.Shelf.read_faults new) (g.S.Shelf.write_faults first) (g.S.Shelf.write_faults old) (g.S.Shelf.write_faults new)
     (g.O.Sink.faults c.args.out.now) (g.O.Sink.faults c.loop.out) (g.O.Sink.faults c.finish-2.new.out) (g.O.Sink.lacks c.args.out.now)
     (g.O.Sink.lacks c.loop.out) (g.O.Sink.lacks c.finish-2.new.out) i.read_faults i.write_faults i.put_faults i.lacks (g.O.Sink.text c.finish-2.new.out)
-    c.finish-2.result c.end-made.ensures.ends (omega (arith, left)) c.finish-2.ensures.ends
+    c.finish-2.result
+    (subst (λ t. IfOk c.end-made.result (λ o. g.P.Steps.ends_as t (g.P.Steps.state c.loop.steps) (outcome_of o))) i.same c.end-made.ensures.ends)
+    c.finish-2.ensures.ends

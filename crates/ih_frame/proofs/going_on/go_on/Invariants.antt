@@ -11,7 +11,7 @@ invariant-loop g l = record {
       (g.S.Shelf.names l.fn.shelf) (g.S.Shelf.names l.shelf) (g.O.Sink.text l.fn.out) (g.O.Sink.text l.out);
   same : g.P.Steps.task l.steps ≡ g.P.Steps.task l.fn.steps;
   lawful : g.P.Steps.is_lawful l.steps;
-  left : l.counter + g.P.Steps.left l.steps ≡ l.count;
+  left : l.counter + g.P.Steps.left l.steps ≤ l.count;
   few : IfTold (ArePutsAtMost l.counter) (g.O.Sink.puts l.fn.out) (g.O.Sink.puts l.out);
   read_faults : g.S.Shelf.read_faults l.fn.shelf ≤ g.S.Shelf.read_faults l.shelf;
   write_faults : g.S.Shelf.write_faults l.fn.shelf ≤ g.S.Shelf.write_faults l.shelf;

@@ -9,6 +9,9 @@ returns-in-View-clause-ends g c = rw c.in-View.is c.perform.ensures.ends
 pub returns-in-Bound-clause-ends : goal.returns-in-Bound-clause-ends
 returns-in-Bound-clause-ends g c = rw c.in-Bound.is c.perform-in-Bound.ensures.ends
 
+pub returns-in-Check-clause-ends : goal.returns-in-Check-clause-ends
+returns-in-Check-clause-ends g c = rw c.in-Check.is c.perform-in-Check.ensures.ends
+
 pub returns-in-Improve-clause-once : goal.returns-in-Improve-clause-once
 returns-in-Improve-clause-once g c = rw c.in-Improve.is c.improve.ensures.few
 
@@ -17,3 +20,6 @@ returns-in-View-clause-once g c = rw c.in-View.is c.perform.ensures.once
 
 pub returns-in-Bound-clause-once : goal.returns-in-Bound-clause-once
 returns-in-Bound-clause-once g c = rw c.in-Bound.is c.perform-in-Bound.ensures.once
+
+pub returns-in-Check-clause-once : goal.returns-in-Check-clause-once
+returns-in-Check-clause-once g c = rw c.in-Check.is c.perform-in-Check.ensures.once

@@ -1,28 +1,33 @@
 use Rattle.std.proofs.Common.{◌≡◌, ◌∙◌, ap, refl, true}
+use Rattle.std.proofs.lemmas.Result.{IfOk-weaker}
 use Rattle.clap.specs.Simple.{Shape, app_of_fields, on_top}
+use Rattle.clap.specs.Words.{App, app_of, with_subcommand}
+use Rattle.clap.specs.declared.builder.command.Command.{Command}
 use Rattle.clap.proofs.OnLiterals.{clap_on_literals}
-use Rattle.ih_planning.specs.Bound.{bound_app}
+use Rattle.ih_planning.specs.Calls.Bound.{bound_app}
 use Rattle.ih_planning.specs.Calls.{program_app}
-use Rattle.ih_planning.specs.Improve.{improve_app}
-use Rattle.ih_planning.specs.View.{view_app}
+use Rattle.ih_planning.specs.Calls.Check.{check_app}
+use Rattle.ih_planning.specs.Calls.Improve.{improve_app}
+use Rattle.ih_planning.specs.Calls.View.{view_app}
 use Rattle.ih_planning.proofs.command.program_description.Goals as goal
 
-plain : (improve_app.top.is_plain ≡ true) × (view_app.top.is_plain ≡ true) × (bound_app.top.is_plain ≡ true)
-unfolding improve_app view_app bound_app
-plain = (refl, refl, refl)
-
 pub returns-clause-simple : goal.returns-clause-simple
-unfolding clap_on_literals program_app improve_app view_app bound_app
+unfolding clap_on_literals program_app improve_app view_app bound_app check_app
 returns-clause-simple c = refl
 
+-- a program with all commands
+abbrev with_all : App → App
+with_all a = with_subcommand (with_subcommand (with_subcommand (with_subcommand a improve_app.top) view_app.top) bound_app.top) check_app.top
+
+from-base : (old new : App) (r : Command) → old ≡ new → app_of r ≡ with_all old → app_of r ≡ with_all new
+from-base old new r is h = h ∙ ap with_all is
+
 pub returns-clause-app : goal.returns-clause-app
-unfolding program_app
+unfolding program_app improve_app view_app bound_app check_app
 returns-clause-app c =
     let about = ap app_of_fields c.about.ensures ∙ c.new.ensures.app in
     let nameless = ap app_of_fields c.no_binary_name.ensures ∙ ap (on_top (λ (s : Shape). record s { no_binary_name = true })) about in
     let required = ap app_of_fields c.subcommand_required.ensures ∙ ap (on_top (λ (s : Shape). record s { subcommand_required = true })) nameless in
     let empty = ap app_of_fields c.arg_required_else_help-empty.ensures
     ∙ ap (on_top (λ (s : Shape). record s { arg_required_else_help = true })) required in
-    let improve = c.with_command-improve.ensures _ _ plain.0 empty c.improve_description.ensures in
-    let view = c.with_command-view.ensures _ _ plain.1 improve c.view_description.ensures in
-    c.with_command.ensures _ _ plain.2 view c.bound_description.ensures
+    IfOk-weaker c.with_commands.result _ (λ r. app_of r ≡ program_app) (λ r h. from-base _ _ r empty h) c.with_commands.ensures

@@ -5,7 +5,7 @@ use Rattle.std.specs.Option.{option_copied}
 use Rattle.ih_tables.specs.declared.drafts.Draft.{Draft}
 use Rattle.ih_plan.specs.Timetable.{Timetable}
 use Rattle.ih_improve.specs.Given.{AreSettingsOf}
-use Rattle.ih_planning.specs.Improve.{given_settings, improve_call}
+use Rattle.ih_planning.specs.Calls.Improve.{improve_call}
 use Rattle.ih_planning.specs.Searching.{begun}
 use Rattle.ih_planning.proofs.SameSearches.{search-from}
 use Rattle.ih_planning.proofs.improving.search_from.Goals as goal
@@ -20,14 +20,14 @@ one-of P None d some other = other
 one-of P (Some x) d some other = some
 
 pub returns-clause-search : goal.returns-clause-search
-returns-clause-search c =
+returns-clause-search g c =
     let call = improve_call c.args.call.now in
     let I = c.args.inputs.now.inst.value.draft in
     let J = c.deref-inst.result.now.draft in
     let P = c.args.inputs.now.plan in
     let s = c.settings-settings.result in
     let same : J ≡ I = cc in
-    let settings = subst (λ (X : Draft). AreSettingsOf X (given_settings call) s) same (rw c.given_settings.ensures at c.settings-settings.ensures) in
+    let settings = subst (λ (X : Draft). AreSettingsOf X call.settings c.args.processors s) same c.settings-settings.ensures in
     let start = ap (λ (b : Bor Timetable). b.now) c.unwrap_or-start.ensures ∙ behind c.in_ok-filled.filled _ _ c.as_ref.ensures.value in
-    search-from I J call P c.unwrap_or-start.result.now s c.in_ok-improver.improver c.in_ok-improver.ensures same settings
+    search-from I J call P c.unwrap_or-start.result.now c.args.processors s c.in_ok-improver.improver c.in_ok-improver.ensures same c.requires.lawful.pace settings
     (start ∙ (c.in_ok-filled.ensures.start ∙ ap (λ (X : Draft). begun call.start.fill s.hard X P) same))

@@ -1,5 +1,8 @@
-use Rattle.ih_planning.proofs.SameRounds.{rounds-same}
+use Rattle.ih_planning.proofs.SameRounds.{attempts-same, rounds-same}
 use Rattle.ih_planning.proofs.laws.determined_workers_leave_the_same.Goals as goal
 
-pub returns : goal.returns
-returns g c = rounds-same g.W.Walks.leaves
+pub returns-clause-spans : goal.returns-clause-spans
+returns-clause-spans g c = rounds-same g.W.Walks.leaves
+
+pub returns-clause-attempts : goal.returns-clause-attempts
+returns-clause-attempts g c = attempts-same g.W.Walks.leaves

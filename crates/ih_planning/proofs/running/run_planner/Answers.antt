@@ -81,8 +81,8 @@ returns-in-Err-Refused-clause-untouched g c = untouched (call_of (map string_byt
 pub returns-in-Err-Refused-clause-complete : goal.returns-in-Err-Refused-clause-complete
 returns-in-Err-Refused-clause-complete g c = rw (c.in-Err-Refused.ensures.none (λ e. let is = c.in-Err-Refused.field-0-is in cc)) tt
 
-pub returns-in-Err-OutOfMemory-clause-leaves : goal.returns-in-Err-OutOfMemory-clause-leaves
-returns-in-Err-OutOfMemory-clause-leaves g c =
+pub returns-clause-leaves : goal.returns-clause-leaves
+returns-clause-leaves g c =
     let shelf = c.args.shelf.now in
     let files = g.S.Shelf.names shelf in
     let why = HasShelfCause g.S.Shelf shelf shelf in
@@ -94,11 +94,11 @@ returns-in-Err-OutOfMemory-clause-leaves g c =
     subst (Leaves words (call_of words) files files why received part) (sym c.conclude_memory.ensures.status)
     (memory-leaves words (call_of words) files why received part tt c.conclude_memory.ensures.said)
 
-pub returns-in-Err-OutOfMemory-clause-untouched : goal.returns-in-Err-OutOfMemory-clause-untouched
-returns-in-Err-OutOfMemory-clause-untouched g c = untouched (call_of (map string_bytes c.args.words.now)) c.args.shelf.now
+pub returns-clause-untouched : goal.returns-clause-untouched
+returns-clause-untouched g c = untouched (call_of (map string_bytes c.args.words.now)) c.args.shelf.now
 
-pub returns-in-Err-OutOfMemory-clause-complete : goal.returns-in-Err-OutOfMemory-clause-complete
-returns-in-Err-OutOfMemory-clause-complete g c =
+pub returns-clause-complete : goal.returns-clause-complete
+returns-clause-complete g c =
     rw c.conclude_memory.ensures.status (memory-complete (call_of (map string_bytes c.args.words.now)) _ _ _ _)
 
 pub returns-in-Ok-clause-once : goal.returns-in-Ok-clause-once
@@ -110,5 +110,5 @@ returns-in-Err-Help-clause-once g c = one-few _ _ _ c.conclude.ensures.once
 pub returns-in-Err-Refused-clause-once : goal.returns-in-Err-Refused-clause-once
 returns-in-Err-Refused-clause-once g c = one-few _ _ _ c.conclude-in-Err-Refused.ensures.once
 
-pub returns-in-Err-OutOfMemory-clause-once : goal.returns-in-Err-OutOfMemory-clause-once
-returns-in-Err-OutOfMemory-clause-once g c = one-few _ _ _ c.conclude_memory.ensures.once
+pub returns-clause-once : goal.returns-clause-once
+returns-clause-once g c = one-few _ _ _ c.conclude_memory.ensures.once

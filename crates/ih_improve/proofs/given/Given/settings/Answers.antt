@@ -10,6 +10,7 @@ returns c =
     let g : Given = c.args.self.now in
     let d : Defaults = c.by_weights-usual.result in
     let within : AreWithin d = record { hot = c.by_weights-usual.ensures.hot; cold = c.by_weights-usual.ensures.cold; hard = c.by_weights-usual.ensures.hard } in
-    settings-of g c.requires d within c.args.inst.now.draft c.by_weights-usual.ensures.value c.unwrap_or-hot.result c.unwrap_or-cold.result c.unwrap_or-3.result
+    settings-of g c.requires.lawful d within c.args.processors c.requires.some c.requires.few c.args.inst.now.draft c.by_weights-usual.ensures.value
+    c.unwrap_or-3.result c.unwrap_or-hot.result c.unwrap_or-cold.result c.unwrap_or-4.result c.unwrap_or-3.ensures
     (c.unwrap_or-hot.ensures ∙ ap (unwrap_or g.hot) (c.max.ensures ∙ ap (max d.hot) c.unwrap_or.ensures))
-    (c.unwrap_or-cold.ensures ∙ ap (unwrap_or g.cold) (c.min.ensures ∙ ap (min d.cold) c.unwrap_or-2.ensures)) c.unwrap_or-3.ensures
+    (c.unwrap_or-cold.ensures ∙ ap (unwrap_or g.cold) (c.min.ensures ∙ ap (min d.cold) c.unwrap_or-2.ensures)) c.unwrap_or-4.ensures

@@ -3,7 +3,7 @@ use Rattle.std.specs.Prelude.{slice_index_or}
 use Rattle.ih_improve.specs.declared.workers.ImproveWorker.{ImproveWorker}
 use Rattle.ih_improve.specs.Better.{best_of}
 use Rattle.ih_improve.specs.Following.{IsNoDearer, MayStand}
-use Rattle.ih_improve.specs.ImproverState.{ImproverState, Leads, led_to, leg_of}
+use Rattle.ih_improve.specs.ImproverState.{ImproverState, Leads, MayGoOn, led_to, leg_of}
 use Rattle.ih_improve.specs.Keeping.{IsKeeping, StandsWell, best_met}
 use Rattle.ih_improve.specs.Legs.{Leaves, LegState}
 use Rattle.ih_improve.proofs.RoundLemmas.{keeps, leads, no_dearer, written-back}
@@ -18,6 +18,7 @@ search g c = record {
   start = c.self.inside.start;
   settings = c.self.inside.settings;
   rounds = c.self.inside.rounds;
+  attempts = c.self.inside.attempts;
   kept = c.self.inside.kept;
 }
 
@@ -42,7 +43,7 @@ stands g c k d h =
     (c.walk_all.ensures.stands k d (rw c.as_mut_slice.ensures.value h))
 
 left : (g : Over) (c : After-take_best g) (k : ℕ) (d : ImproveWorker) → k < length (workers g c)
-    → Leaves (leg_of (search g c)) k (best_met (slice_index_or (later g c) k d))
+    → Leaves (leg_of (search g c) c.args.span.now) k (best_met (slice_index_or (later g c) k d))
 left g c k d h =
     subst (λ (s : LegState). Leaves s k (best_met (slice_index_or (later g c) k d))) c.new-leg.ensures
     (c.walk_all.ensures.left k d (rw c.as_mut_slice.ensures.value h))
@@ -56,17 +57,17 @@ best g c = rw (c.as_slice.ensures.value, whole g c) at c.take_best.ensures.kept
 
 pub returns-clause-best : goal.returns-clause-best
 returns-clause-best g c =
-    subst (λ (v : ImproverState). Leads Leaves v c.take_best.new.kept) c.self.view_is
-    (leads (search g c) c.self.inside.bill (workers g c) (later g c) c.self.invariant (many g c) (same g c) (stands g c) (left g c) c.take_best.new.kept (best g c))
+    subst (λ (v : ImproverState). Leads Leaves v c.args.span.now c.take_best.new.kept) c.self.view_is
+    (leads (search g c) c.args.span.now c.self.inside.bill (workers g c) (later g c) c.self.invariant (many g c) (same g c) (stands g c) (left g c) c.take_best.new.kept (best g c))
 
 pub returns-clause-no_dearer : goal.returns-clause-no_dearer
 returns-clause-no_dearer g c =
     subst (λ (v : ImproverState). IsNoDearer v.instance v.kept c.take_best.new.kept) c.self.view_is
-    (no_dearer (search g c) c.self.inside.bill (workers g c) (later g c) c.self.invariant (many g c) (same g c) (stands g c) (left g c) c.take_best.new.kept (best g c))
+    (no_dearer (search g c) c.args.span.now c.self.inside.bill (workers g c) (later g c) c.self.invariant (many g c) (same g c) (stands g c) (left g c) c.take_best.new.kept (best g c))
 
 pub invariant_of-self : goal.invariant_of-self
 invariant_of-self g c =
     let P = c.take_best.new.kept in
-    let more : (search g c).rounds < (search g c).settings.rounds = rw (← c.self.view_is) at c.requires in
-    subst (IsKeeping (led_to (search g c) P) c.take_best.new.bill) (sym (whole g c))
-    (keeps (search g c) c.self.inside.bill (workers g c) (later g c) c.self.invariant (many g c) (same g c) (stands g c) (left g c) P c.take_best.new.bill more (best g c) c.take_best.ensures.bill)
+    let may : MayGoOn (search g c) c.args.span.now = subst (λ (v : ImproverState). MayGoOn v c.args.span.now) (sym c.self.view_is) c.requires in
+    subst (IsKeeping (led_to (search g c) c.args.span.now P) c.take_best.new.bill) (sym (whole g c))
+    (keeps (search g c) c.args.span.now c.self.inside.bill (workers g c) (later g c) c.self.invariant (many g c) (same g c) (stands g c) (left g c) P c.take_best.new.bill may (best g c) c.take_best.ensures.bill)
