@@ -9,6 +9,14 @@ use std::alloc::{AllocError, Global};
 use std::sync::Wait;
 use std::thread::Threads;
 
+/// What is asked: a search over an instance from this start, by these options.
+#[derive(Clone, Copy)]
+pub(crate) struct Question<'q> {
+    pub(crate) inst: &'q Instance,
+    pub(crate) start: &'q Plan,
+    pub(crate) options: &'q Options,
+}
+
 /// Whoever is asked for the searches of a run of rounds; `K` says of which kind it is.
 pub(crate) trait Asked<K> {
     ghost use Rattle.std.specs.Prelude.{◌≡◌, [], ◌∷◌, IfOk, OnErr};
@@ -29,17 +37,15 @@ pub(crate) trait Asked<K> {
         &mut self,
         rt: &R,
         alloc: Global,
-        inst: &Instance,
-        start: &Plan,
-        options: &Options,
+        asked: &Question<'_>,
     ) -> Result<Vec<Entry>, AllocError>
         requires sync { IsSync R.row }
         requires ready { ready self.old }
-        requires start { IsPlanOf inst.now.draft start.now }
-        requires lawful { IsLawful options.now }
-        requires once { options.now.retries ≡ 0 }
+        requires start { IsPlanOf asked.now.inst.now.draft asked.now.start.now }
+        requires lawful { IsLawful asked.now.options.now }
+        requires once { asked.now.options.now.retries ≡ 0 }
         ensures full { IfOk result (λ v.
-            IsFull (base_with inst.entry.now.draft start.entry.now options.entry.now 0) 1 (tries v.items)) }
+            IsFull (base_with asked.now.inst.now.draft asked.now.start.now asked.now.options.now 0) 1 (tries v.items)) }
         ensures more { IfOk result (λ v. told self.new ≡ with_answers (told self.old) (v.items ∷ [])) }
         ensures kept { OnErr result (told self.new ≡ told self.old) }
         ensures ready { ready self.new };
@@ -60,11 +66,9 @@ impl<S: Searcher> Asked<OfSearcher> for S {
         &mut self,
         rt: &R,
         alloc: Global,
-        inst: &Instance,
-        start: &Plan,
-        options: &Options,
+        asked: &Question<'_>,
     ) -> Result<Vec<Entry>, AllocError> {
-        self.search(rt, alloc, inst, start, options)
+        self.search(rt, alloc, asked.inst, asked.start, asked.options)
     }
 }
 
@@ -92,10 +96,8 @@ impl<F: Fn(Global, &Instance, &Plan, &Options) -> Result<Vec<Entry>, AllocError>
         &mut self,
         _rt: &R,
         alloc: Global,
-        inst: &Instance,
-        start: &Plan,
-        options: &Options,
+        asked: &Question<'_>,
     ) -> Result<Vec<Entry>, AllocError> {
-        (self.search)(alloc, inst, start, options)
+        (self.search)(alloc, asked.inst, asked.start, asked.options)
     }
 }

@@ -6,7 +6,7 @@ ghost use Rattle.ih_journal.specs.{declared.settings.Options.Options as Search_o
 ghost use Rattle.ih_cellbook.specs.Keeping.{base_with};
 ghost use Rattle.ih_rounds.specs.{Rounds.options_in, Steps.HasRound, Steps.IsAnswer, Steps.LeadsOn, Steps.end_of};
 
-use crate::asking::Asked;
+use crate::asking::{Asked, Question};
 use ih_cellbook::{best_in, plan_at, put_journal};
 use ih_journal::{Entry, Options};
 use ih_plan::Plan;
@@ -87,7 +87,12 @@ pub(crate) fn search_round<R: Threads + Wait + Sync, K, S: Asked<K>>(
         (S.told searcher.old) (S.told searcher.new) journal.old.items journal.new.items) }
     ensures ready { S.ready searcher.new }
 {
-    let answer = searcher.ask(rt, alloc, inst, start, options)?;
+    let asked = Question {
+        inst,
+        start,
+        options,
+    };
+    let answer = searcher.ask(rt, alloc, &asked)?;
     let entries = answer.as_slice();
     put_journal(options, entries, journal)?;
     lead_on(alloc, inst, start, entries)

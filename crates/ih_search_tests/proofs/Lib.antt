@@ -1,3 +1,3 @@
 mod Desks
 mod TriedLists
-mod TwoNumbers
+mod TwoSeats

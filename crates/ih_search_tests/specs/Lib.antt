@@ -1,1 +1,2 @@
 pub mod NewSeats
+pub mod Scenes

@@ -3,11 +3,12 @@
 mod chains;
 mod desk;
 mod histories;
+mod playing;
 mod replay;
 mod rounds;
 mod scenes;
+mod seats;
 mod snapshot;
-mod steps;
 mod turn;
 mod words;
 mod workers;

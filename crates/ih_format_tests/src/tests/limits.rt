@@ -5,9 +5,9 @@ use crate::tests::rows::none_is_wrong;
 use ih_fixtures::{TWO_PATIENTS, WARD, cut};
 use std::alloc::{AllocError, Global};
 
-// Numbers of the ward of one day: what stands in the file, what has the greatest number in its place, what has one
-// more, and how that is refused.
-const IN_THE_WARD: &str = r#"
+// Numbers of the ward of one day, and then of that of two patients: what stands in the file, what has the greatest
+// number in its place, what has one more, and how that is refused.
+const NUMBERS: &str = r#"
 "days":1 | "days":56 | "days":57 | Range at $.days
 "skill_levels":3 | "skill_levels":1000 | "skill_levels":1001 | Range at $.skill_levels
 "room_mixed_age":5 | "room_mixed_age":100000 | "room_mixed_age":100001 | Range at $.weights.room_mixed_age
@@ -24,10 +24,7 @@ const IN_THE_WARD: &str = r#"
 "length_of_stay":1 | "length_of_stay":100 | "length_of_stay":101 | Range at $.occupants[0].length_of_stay
 [2,1,1] | [100000,1,1] | [100001,1,1] | Range at $.occupants[0].workload_produced[0]
 [1,0,2] | [1000,0,2] | [1001,0,2] | Range at $.occupants[0].skill_level_required[0]
-"#;
-
-// Numbers of the ward of two patients.
-const OF_PATIENTS: &str = r#"
+of two patients:
 "length_of_stay":5 | "length_of_stay":100 | "length_of_stay":101 | Range at $.patients[0].length_of_stay
 "surgery_release_day":0 | "surgery_release_day":1000 | "surgery_release_day":1001 | Range at $.patients[0].surgery_release_day
 "surgery_due_day":1 | "surgery_due_day":1000 | "surgery_due_day":1001 | Range at $.patients[0].surgery_due_day
@@ -36,44 +33,18 @@ const OF_PATIENTS: &str = r#"
 [60,60] | [60,100000] | [60,100001] | Range at $.operating_theaters[0].availability[1]
 "#;
 
-// The first row whose greatest number isn't accepted in a file, or one more not refused as the row says.
-fn first_not_greatest<'t>(alloc: Global, file: &str, table: &'t str) -> &'t str {
-    for row in table.trim().split('\n') {
-        let (old, rest) = cut(row, " | ");
-        let (most, rest) = cut(rest, " | ");
-        let (more, refusal) = cut(rest, " | ");
-        if !is_answered(alloc, file, old, most, "accepted")
-            || !is_answered(alloc, file, old, more, refusal)
-        {
-            return row;
-        }
-    }
-    ""
-}
-
-#[test]
-fn greatest_numbers(rt: HostRuntime) {
-    none_is_wrong(&rt, first_not_greatest(rt.alloc(), WARD, IN_THE_WARD));
-    none_is_wrong(
-        &rt,
-        first_not_greatest(rt.alloc(), TWO_PATIENTS, OF_PATIENTS),
-    );
-}
-
-// Lists of the ward of one day: what stands in the file, how more items begin and end in its place, an item, how many
-// more items there may be, and what is answered to so many and to one more. The items stand where there are three dots,
-// and an item's number where there is a '#'.
-const LISTS_OF_THE_WARD: &str = r#"
+// Lists of the ward of one day, and then of that of two patients: what stands in the file, how more items begin and end
+// in its place, an item, how many more items there may be, and what is answered to so many and to one more. The items
+// stand where there are three dots, and an item's number where there is a '#'. The rooms that are listed more have no
+// name that is known, which is found once the list isn't too long.
+const LISTS: &str = r#"
 "age_groups":[ | "age_groups":[..., | "x#" | 61 | accepted | Length at $.age_groups
 "surgeons":[] | "surgeons":[...] | {"id":"x#","max_surgery_time":[1]} | 128 | accepted | Length at $.surgeons
 "operating_theaters":[] | "operating_theaters":[...] | {"id":"x#","availability":[1]} | 64 | accepted | Length at $.operating_theaters
 "rooms":[ | "rooms":[..., | {"id":"x#","capacity":1} | 127 | accepted | Length at $.rooms
 "nurses":[ | "nurses":[..., | {"id":"x#","skill_level":0,"working_shifts":[]} | 511 | accepted | Length at $.nurses
 "occupants":[ | "occupants":[..., | {"id":"x#","gender":"A","age_group":"old","length_of_stay":1,"workload_produced":[0,0,0],"skill_level_required":[0,0,0],"room_id":"r0"} | 511 | accepted | Length at $.occupants
-"#;
-
-// The rooms that are listed more have no name that is known, which is found once the list isn't too long.
-const LISTS_OF_PATIENTS: &str = r#"
+of two patients:
 "patients":[ | "patients":[..., | {"id":"x#","mandatory":false,"gender":"B","age_group":"child","length_of_stay":1,"surgery_release_day":0,"surgery_duration":40,"surgeon_id":"s0","incompatible_room_ids":[],"workload_produced":[1,1,1],"skill_level_required":[2,2,2]} | 2046 | accepted | Length at $.patients
 "incompatible_room_ids":[ | "incompatible_room_ids":[..., | "x#" | 1023 | Unknown at $.patients[0].incompatible_room_ids[0] | Length at $.patients[0].incompatible_room_ids
 "#;
@@ -125,12 +96,17 @@ fn is_answered_with(
     }
 }
 
-fn is_limited(alloc: Global, file: &str, row: &str) -> bool {
-    let (old, rest) = cut(row, " | ");
-    let (ends, rest) = cut(rest, " | ");
-    let (item, rest) = cut(rest, " | ");
-    let (more, rest) = cut(rest, " | ");
-    let (within, beyond) = cut(rest, " | ");
+// Whether the answers to so many more items, and to one more, are these.
+fn are_limited(
+    alloc: Global,
+    file: &str,
+    old: &str,
+    ends: &str,
+    item: &str,
+    answers: &str,
+) -> bool {
+    let (more, answers) = cut(answers, " | ");
+    let (within, beyond) = cut(answers, " | ");
     match more.parse::<u32>() {
         Ok(more) => {
             is_answered_with(alloc, file, old, ends, item, more, within)
@@ -140,9 +116,26 @@ fn is_limited(alloc: Global, file: &str, row: &str) -> bool {
     }
 }
 
-fn first_not_limited<'t>(alloc: Global, file: &str, table: &'t str) -> &'t str {
+// Whether a row's greatest number or list is answered in a file as the row says, and so is one more.
+fn is_limited(alloc: Global, file: &str, row: &str) -> bool {
+    let (old, rest) = cut(row, " | ");
+    let (most, rest) = cut(rest, " | ");
+    let (more, answer) = cut(rest, " | ");
+    if most.contains("...") {
+        are_limited(alloc, file, old, most, more, answer)
+    } else {
+        is_answered(alloc, file, old, most, "accepted")
+            && is_answered(alloc, file, old, more, answer)
+    }
+}
+
+// The first row of a table that isn't so.
+fn first_not_limited(alloc: Global, table: &str) -> &str {
+    let mut file = WARD;
     for row in table.trim().split('\n') {
-        if !is_limited(alloc, file, row) {
+        if row == "of two patients:" {
+            file = TWO_PATIENTS;
+        } else if !is_limited(alloc, file, row) {
             return row;
         }
     }
@@ -150,12 +143,13 @@ fn first_not_limited<'t>(alloc: Global, file: &str, table: &'t str) -> &'t str {
 }
 
 #[test]
+fn greatest_numbers(rt: HostRuntime) {
+    none_is_wrong(&rt, first_not_limited(rt.alloc(), NUMBERS));
+}
+
+#[test]
 fn longest_lists(rt: HostRuntime) {
-    none_is_wrong(&rt, first_not_limited(rt.alloc(), WARD, LISTS_OF_THE_WARD));
-    none_is_wrong(
-        &rt,
-        first_not_limited(rt.alloc(), TWO_PATIENTS, LISTS_OF_PATIENTS),
-    );
+    none_is_wrong(&rt, first_not_limited(rt.alloc(), LISTS));
 }
 
 // Whether that is answered where the occupant's name has so many letters.

@@ -1,5 +1,5 @@
 //! The examples that docs/FORMATS.md shows, which are files of examples/: the plan has the report of that page, and the
-//! journal is what its search writes, and what a replay takes. bench/examples.py compares the texts here with the files
+//! journal is what its search writes, and what a replay takes. tools/examples.py compares the texts here with the files
 //! and the page.
 
 use crate::tests::program::goes;

@@ -1,29 +1,31 @@
-//! Two workers who look and offer by turns, over one desk on the ward of two patients.
+//! What two workers do at a desk over a book, and what comes of it.
+//!
+//! The lines of a desk's scene stand in parts: what seat 1 does, then seat 0, then seat 1 again. A first part `works`
+//! has a worker with seat 0 make all its moves, before seat 1 looks. An entry stands as its line in the journal.
 
-ghost use Rattle.std.specs.Prelude.{◌≡◌, ◌<◌, ◌≤◌, [], All, IfSome, IsTrue, Some, drop, length};
-ghost use Rattle.ih_plan.specs.{Expand.IsMoveOf, Timetable.IsPlanOf};
-ghost use Rattle.ih_journal.specs.Settings.{IsLawful};
+ghost use Rattle.std.specs.Prelude.{◌≡◌, ℕ, ◌<◌, ◌≤◌, [], All, IsTrue, Some, drop, length, map, slice_index, take};
+ghost use Rattle.ih_plan.specs.Expand.{IsMoveOf};
 ghost use Rattle.ih_turn.specs.Seats.{history, number_of, turns_left};
-ghost use Rattle.ih_cellbook.specs.{Keeping.base_with, Laws.HasNoneBy, Offers.next_number, Replicas.IsReplicaIn};
-ghost use Rattle.ih_desk.specs.Desks.{IsSeatAt, base_of, worker_count};
-ghost use Rattle.ih_search_tests.specs.NewSeats.{IsNewSeat};
+ghost use Rattle.ih_cellbook.specs.{BufferState.most_copied, Keeping.base_with, Laws.HasNoneBy, Offers.next_number};
+ghost use Rattle.ih_cellbook.specs.Replicas.{IsReplicaIn, IsReplicaOf};
+ghost use Rattle.ih_desk.specs.{Desks.IsSeatAt, Desks.base_of, Desks.worker_count, Turns.HasLooked, Turns.MayLook};
+ghost use Rattle.ih_desk.specs.Workers.{enough_turns};
+ghost use Rattle.ih_search_tests.specs.NewSeats.{IsFollowed, IsNewSeat, StaysFollowed};
+ghost use Rattle.ih_search_tests.specs.Scenes.{IsGiven, IsOver};
 
 use crate::tests::rounds::may_come;
-use crate::tests::steps::{
-    FIRST_NURSE, JOIN, SECOND_NURSE, TWICE_STALE, hot, new_book, two_replicas,
-};
+use crate::tests::scenes::{Scene, is_at};
+use crate::tests::seats::{list_of, two_of};
+use crate::tests::words::{pair, word};
+use crate::tests::workers::works;
 use ih_cellbook::{Book, Buffer, Offer};
 use ih_desk::{Desk, DeskSeat};
-use ih_fixtures::on_first_admitted;
-use ih_journal::{Entry, Options, Verdict, parse_move};
-use ih_plan::{Move, Plan};
+use ih_fixtures::cut;
+use ih_journal::{Entry, Options, parse_line};
 use ih_snapshot::Replica;
-use ih_tables::Instance;
-use std::alloc::{AllocError, Global};
+use std::alloc::Global;
 use std::sync::Wait;
-
-// A move of a worker: its number, its text, and the verdict on it.
-type Row = (u32, &'static str, Verdict);
+use std::thread::Threads;
 
 // Whether a look has shown all entries, and the offer's worker, which has this number, may offer this after them.
 fn may_offer(buffer: &Buffer, worker: u32, options: &Options, offer: &Offer) -> bool
@@ -42,36 +44,58 @@ fn may_offer(buffer: &Buffer, worker: u32, options: &Options, offer: &Offer) -> 
     may_come(entries, options, offer)
 }
 
-// Offers a move of the seat's worker, priced on the replica. Answers no verdict if a look shows that it isn't the
-// worker's next move, or that the replica doesn't stand for the worker's latest entry.
+// Looks at the entries from a place on, or at the first 256 of them.
+fn look<'a, R: Wait>(
+    rt: &R,
+    desk: &Desk<'a>,
+    seat: DeskSeat<'a, Entry>,
+    replica: &Replica<'_>,
+    buffer: &mut Buffer,
+    from: u32,
+) -> DeskSeat<'a, Entry>
+    requires may { MayLook desk.now from seat }
+    requires replica { IsReplicaIn (base_of desk.now) (history seat) replica.now }
+    ensures looked { HasLooked desk.now seat.entry result }
+    ensures copied { buffer.new
+        ≡ record {
+          from = from;
+          entries = take most_copied
+              (drop from (history result));
+          front = length (history result);
+        } }
+    ensures replica { IsReplicaIn (base_of desk.now) (history result) replica.now }
+{
+    // For the proof alone: the replica follows the seat.
+    let _ = replica;
+    buffer.set_from(from);
+    desk.look(rt, seat, buffer)
+}
+
+// Offers an entry's move, priced on the replica, once a look shows that it is the next of the seat's worker, and that
+// the replica has seen the worker's latest entry. Answers whether that is so and the verdict is the entry's.
 fn offer<'a, R: Wait>(
     rt: &R,
     desk: &Desk<'a>,
     seat: DeskSeat<'a, Entry>,
-    replica: &mut Replica<'a>,
-    buffer: &mut Buffer,
+    replica: &mut Replica<'_>,
     options: &Options,
-    mv: &Move,
-    attempt_no: u32,
-) -> (DeskSeat<'a, Entry>, Option<Verdict>)
-    requires own { IsSeatAt desk.now seat }
+    buffer: &mut Buffer,
+    entry: &Entry,
+) -> (DeskSeat<'a, Entry>, bool)
+    requires seat { IsFollowed desk.now seat replica.old }
     requires left { 2 ≤ turns_left seat }
-    requires replica { IsReplicaIn (base_of desk.now) (history seat) replica.old }
     requires options { options.now ≡ (base_of desk.now).options }
-    requires move_in { IsMoveOf (base_of desk.now).instance mv.now }
-    ensures own { IsSeatAt desk.now result.0 }
-    ensures number { number_of result.0 ≡ number_of seat.entry }
-    ensures replica { IsReplicaIn (base_of desk.now) (history result.0) replica.new }
+    requires move_in { IsMoveOf (base_of desk.now).instance entry.now.mv }
+    ensures { StaysFollowed desk.now seat.entry result.0 replica.new }
 {
-    buffer.set_from(0);
-    let seat = desk.look(rt, seat, buffer);
+    let seat = look(rt, desk, seat, replica, buffer, 0);
     let worker = seat.number();
-    let offer = replica.offer(mv, attempt_no);
+    let offer = replica.offer(&entry.mv, entry.number);
     if may_offer(buffer, worker, options, offer) {
         let (seat, verdict) = desk.offer(rt, seat, offer);
-        (seat, Some(verdict))
+        (seat, verdict == entry.verdict)
     } else {
-        (seat, None)
+        (seat, false)
     }
 }
 
@@ -80,298 +104,253 @@ fn follow<'a, R: Wait>(
     rt: &R,
     desk: &Desk<'a>,
     seat: DeskSeat<'a, Entry>,
-    replica: &mut Replica<'a>,
+    replica: &mut Replica<'_>,
     buffer: &mut Buffer,
 ) -> DeskSeat<'a, Entry>
-    requires own { IsSeatAt desk.now seat }
+    requires seat { IsFollowed desk.now seat replica.old }
     requires left { 1 ≤ turns_left seat }
-    requires replica { IsReplicaIn (base_of desk.now) (history seat) replica.old }
-    ensures own { IsSeatAt desk.now result }
-    ensures number { number_of result ≡ number_of seat.entry }
-    ensures replica { IsReplicaIn (base_of desk.now) (history result) replica.new }
+    ensures { StaysFollowed desk.now seat.entry result replica.new }
 {
-    buffer.set_from(replica.seen());
-    let seat = desk.look(rt, seat, buffer);
+    let from = replica.seen();
+    let seat = look(rt, desk, seat, replica, buffer, from);
     replica.advance(buffer.entries());
     seat
 }
 
-// The seat, once the verdict on its worker's move, priced on the replica, is the row's.
-fn offered<'a, R: Wait>(
+// Whether a look has shown so many entries of so many.
+fn has_shown(buffer: &Buffer, text: &str) -> bool {
+    let (count, front) = pair(text);
+    buffer.entries().len() == count as usize && buffer.front() == front
+}
+
+// Whether a look has shown an entry at its place.
+fn has_shown_entry(buffer: &Buffer, place: u32, entry: &Entry) -> bool {
+    is_at(buffer.entries(), place, entry)
+}
+
+// Whether the seat has seen so many entries, and made so many.
+fn has_counts(seat: &DeskSeat<'_, Entry>, text: &str) -> bool {
+    let (seen, made) = pair(text);
+    (seat.seen(), seat.made()) == (seen as u64, made as u64)
+}
+
+// What comes of a seat by an entry's line, and whether that is as the line says.
+fn step_by_line<'a, R: Wait>(
     rt: &R,
-    inst: &Instance,
+    scene: &Scene<'_>,
     desk: &Desk<'a>,
     seat: DeskSeat<'a, Entry>,
-    replica: &mut Replica<'a>,
+    replica: &mut Replica<'_>,
     buffer: &mut Buffer,
-    options: &Options,
-    row: &Row,
-) -> Option<DeskSeat<'a, Entry>>
-    requires own { IsSeatAt desk.now seat }
-    requires replica { IsReplicaIn (base_of desk.now) (history seat) replica.old }
-    requires instance { inst.now.draft ≡ (base_of desk.now).instance }
-    requires options { options.now ≡ (base_of desk.now).options }
-    ensures own { IfSome result (λ s. IsSeatAt desk.now s × (number_of s ≡ number_of seat.entry)) }
-    ensures replica { IfSome result (λ s. IsReplicaIn (base_of desk.now) (history s) replica.new) }
+    offers: bool,
+    line: &str,
+) -> (DeskSeat<'a, Entry>, bool)
+    requires seat { IsFollowed desk.now seat replica.old }
+    requires left { 2 ≤ turns_left seat }
+    requires over { IsOver scene.now.inst.now.draft scene.now.options (base_of desk.now) }
+    ensures { StaysFollowed desk.now seat.entry result.0 replica.new }
 {
-    let (number, text, wanted) = row;
+    match parse_line(scene.inst, &scene.options, line.as_bytes()) {
+        Ok((_, entry)) if offers => {
+            offer(rt, desk, seat, replica, &scene.options, buffer, &entry)
+        }
+        Ok((place, entry)) => (seat, has_shown_entry(buffer, place, &entry)),
+        Err(_) => (seat, false),
+    }
+}
+
+// What comes of a seat by a line, and whether that is as the line says. A seat with fewer than two turns left does
+// nothing.
+fn step<'a, R: Wait>(
+    rt: &R,
+    scene: &Scene<'_>,
+    desk: &Desk<'a>,
+    seat: DeskSeat<'a, Entry>,
+    replica: &mut Replica<'_>,
+    buffer: &mut Buffer,
+    line: &str,
+) -> (DeskSeat<'a, Entry>, bool)
+    requires seat { IsFollowed desk.now seat replica.old }
+    requires over { IsOver scene.now.inst.now.draft scene.now.options (base_of desk.now) }
+    ensures { StaysFollowed desk.now seat.entry result.0 replica.new }
+{
     if seat.left() < 2 {
-        return None;
+        return (seat, false);
     }
-    let Some(mv) = parse_move(inst, text.as_bytes()) else {
-        return None;
-    };
-    let (seat, said) = offer(rt, desk, seat, replica, buffer, options, &mv, *number);
-    if said == Some(*wanted) {
-        Some(seat)
-    } else {
-        None
+    let (verb, text) = word(line);
+    match verb {
+        "follows" => (follow(rt, desk, seat, replica, buffer), true),
+        "looks" => {
+            let seat = look(rt, desk, seat, replica, buffer, 0);
+            (seat, has_shown(buffer, text))
+        }
+        "counts" => {
+            let counts = has_counts(&seat, text);
+            (seat, counts)
+        }
+        _ => step_by_line(
+            rt,
+            scene,
+            desk,
+            seat,
+            replica,
+            buffer,
+            verb == "offers",
+            text,
+        ),
     }
 }
 
-// The same of two moves, where the replica takes over the first before the second is priced.
-fn offered_twice<'a, R: Wait>(
+// The same of some lines, up to the first that isn't so.
+fn step_all<'a, R: Wait>(
     rt: &R,
-    inst: &Instance,
+    scene: &Scene<'_>,
     desk: &Desk<'a>,
     seat: DeskSeat<'a, Entry>,
-    replica: &mut Replica<'a>,
+    replica: &mut Replica<'_>,
     buffer: &mut Buffer,
-    options: &Options,
-    rows: &(Row, Row),
-) -> Option<DeskSeat<'a, Entry>>
-    requires own { IsSeatAt desk.now seat }
-    requires replica { IsReplicaIn (base_of desk.now) (history seat) replica.old }
-    requires instance { inst.now.draft ≡ (base_of desk.now).instance }
-    requires options { options.now ≡ (base_of desk.now).options }
-    ensures { IfSome result (λ s. IsSeatAt desk.now s × (number_of s ≡ number_of seat.entry)) }
+    lines: &str,
+) -> (DeskSeat<'a, Entry>, bool)
+    requires seat { IsFollowed desk.now seat replica.old }
+    requires over { IsOver scene.now.inst.now.draft scene.now.options (base_of desk.now) }
+    ensures { StaysFollowed desk.now seat.entry result.0 replica.new }
 {
-    let Some(seat) = offered(rt, inst, desk, seat, replica, buffer, options, &rows.0) else {
-        return None;
-    };
-    if seat.left() < 1 {
-        return None;
+    let mut seat = seat;
+    for line in lines.split('\n') {
+        let (after, is_so) = step(rt, scene, desk, seat, replica, buffer, line);
+        if !is_so {
+            return (after, false);
+        }
+        seat = after;
     }
-    let seat = follow(rt, desk, seat, replica, buffer);
-    offered(rt, inst, desk, seat, replica, buffer, options, &rows.1)
+    (seat, true)
 }
 
-// Whether the buffer has all of three entries, the last of them worker 0's.
-fn has_three(buffer: &Buffer) -> bool {
-    let entries = buffer.entries();
-    buffer.front() == 3 && entries.len() == 3 && entries[2].worker == 0
-}
-
-// The seat, once a look has shown it these three entries, the last of them behind its worker's own.
-fn shown<'a, R: Wait>(
-    rt: &R,
-    desk: &Desk<'a>,
-    seat: DeskSeat<'a, Entry>,
-    buffer: &mut Buffer,
-) -> Option<DeskSeat<'a, Entry>>
-    requires { IsSeatAt desk.now seat }
-    ensures { IfSome result (λ s. IsSeatAt desk.now s × (number_of s ≡ number_of seat.entry)) }
-{
-    if seat.left() < 1 {
-        return None;
-    }
-    buffer.set_from(0);
-    let seat = desk.look(rt, seat, buffer);
-    if has_three(buffer) && seat.seen() == 3 {
-        Some(seat)
-    } else {
-        None
-    }
-}
-
-// The book of a desk whose two seats have come back.
-fn closed<'a>(
+// Whether the book of a desk whose two seats come back has three entries.
+fn closes_with_three<'a>(
     alloc: Global,
     desk: Desk<'a>,
     zero: DeskSeat<'a, Entry>,
     one: DeskSeat<'a, Entry>,
-) -> Result<Book<'a>, AllocError>
+) -> bool
     requires own { (worker_count desk ≡ 2) × IsSeatAt desk zero × IsSeatAt desk one }
     requires numbers { (number_of zero ≡ 0) × (number_of one ≡ 1) }
 {
-    let mut seats = Vec::new(alloc);
-    seats.push(zero)?;
-    seats.push(one)?;
-    Ok(desk.close(seats))
-}
-
-// The night goes to the second nurse and back again. Then the other worker, who has seen neither, offers a price that
-// both have made stale.
-const OF_ONE: (Row, Row) = (
-    (0, SECOND_NURSE, Verdict::Accepted),
-    (1, FIRST_NURSE, Verdict::Accepted),
-);
-
-const OF_ZERO: Row = (0, JOIN, TWICE_STALE);
-
-// Whether a seat has seen and made so many entries.
-fn counts(seat: &DeskSeat<'_, Entry>, seen: u64, made: u64) -> bool {
-    seat.seen() == seen && seat.made() == made
-}
-
-// Both seats, once all came out so. Seat 1 looks last.
-fn after_turns<'a, R: Wait>(
-    rt: &R,
-    inst: &Instance,
-    desk: &Desk<'a>,
-    zero: DeskSeat<'a, Entry>,
-    one: DeskSeat<'a, Entry>,
-    first: &mut Replica<'a>,
-    second: &mut Replica<'a>,
-    buffer: &mut Buffer,
-    options: &Options,
-) -> Option<(DeskSeat<'a, Entry>, DeskSeat<'a, Entry>)>
-    requires own { IsSeatAt desk.now zero × IsSeatAt desk.now one }
-    requires first { IsReplicaIn (base_of desk.now) (history zero) first.old }
-    requires second { IsReplicaIn (base_of desk.now) (history one) second.old }
-    requires instance { inst.now.draft ≡ (base_of desk.now).instance }
-    requires options { options.now ≡ (base_of desk.now).options }
-    ensures own { IfSome result (λ t. IsSeatAt desk.now t.0 × IsSeatAt desk.now t.1) }
-    ensures numbers { IfSome result
-        (λ t. (number_of t.0 ≡ number_of zero.entry) × (number_of t.1 ≡ number_of one.entry)) }
-{
-    let Some(one) = offered_twice(rt, inst, desk, one, second, buffer, options, &OF_ONE) else {
-        return None;
-    };
-    let Some(zero) = offered(rt, inst, desk, zero, first, buffer, options, &OF_ZERO) else {
-        return None;
-    };
-    if !counts(&one, 2, 2) || !counts(&zero, 3, 1) {
-        return None;
-    }
-    match shown(rt, desk, one, buffer) {
-        Some(one) => Some((zero, one)),
-        None => None,
-    }
-}
-
-// The same of new seats, each with a new replica.
-fn after_first_turns<'a, R: Wait>(
-    rt: &R,
-    alloc: Global,
-    inst: &'a Instance,
-    start: &Plan,
-    desk: &Desk<'a>,
-    zero: DeskSeat<'a, Entry>,
-    one: DeskSeat<'a, Entry>,
-    options: &Options,
-) -> Option<(DeskSeat<'a, Entry>, DeskSeat<'a, Entry>)>
-    requires start { IsPlanOf inst.now.draft start.now }
-    requires lawful { IsLawful options.now }
-    requires base { base_of desk.now ≡ base_with inst.now.draft start.now options.now 0 }
-    requires new { IsNewSeat 6 desk.now zero × IsNewSeat 6 desk.now one }
-    ensures own { IfSome result (λ t. IsSeatAt desk.now t.0 × IsSeatAt desk.now t.1) }
-    ensures numbers { IfSome result
-        (λ t. (number_of t.0 ≡ number_of zero.entry) × (number_of t.1 ≡ number_of one.entry)) }
-{
-    let Ok(mut buffer) = Buffer::new(alloc) else {
-        return None;
-    };
-    match two_replicas(alloc, inst, start, options, 0) {
-        Ok((mut first, mut second)) => after_turns(
-            rt,
-            inst,
-            desk,
-            zero,
-            one,
-            &mut first,
-            &mut second,
-            &mut buffer,
-            options,
-        ),
-        Err(_) => None,
-    }
-}
-
-// The last of the seats that are left.
-fn last_seat<'a>(
-    desk: &Desk<'a>,
-    seats: &mut Vec<DeskSeat<'a, Entry>>,
-    turns: u64,
-) -> Option<DeskSeat<'a, Entry>>
-    requires { All (IsNewSeat turns desk.now) seats.old.items }
-    ensures { IfSome result (λ s. All (IsNewSeat turns desk.now) seats.new.items × IsNewSeat turns desk.now s) }
-{
-    // For the proof alone: the seats are the desk's, with so many turns.
-    let _ = desk;
-    let _ = turns;
-    match seats.pop() {
-        Some(seat) => Some(seat),
-        None => None,
-    }
-}
-
-/// A desk over a book for two workers, and its two seats, each with so many turns.
-pub(crate) fn two_seats<'a>(
-    alloc: Global,
-    book: Book<'a>,
-    turns: u64,
-) -> Option<(Desk<'a>, DeskSeat<'a, Entry>, DeskSeat<'a, Entry>)>
-    requires workers { book.base.options.workers ≡ 2 }
-    requires empty { book.entries ≡ [] }
-    requires few { turns ≤ 100 }
-    ensures base { IfSome result (λ t. base_of t.0 ≡ book.entry.base) }
-    ensures new { IfSome result (λ t. IsNewSeat turns t.0 t.1 × IsNewSeat turns t.0 t.2) }
-    ensures numbers { IfSome result (λ t. (number_of t.1 ≡ 0) × (number_of t.2 ≡ 1)) }
-{
-    let Ok((desk, mut seats)) = Desk::open(alloc, book, 2, turns) else {
-        return None;
-    };
-    let Some(one) = last_seat(&desk, &mut seats, turns) else {
-        return None;
-    };
-    let Some(zero) = last_seat(&desk, &mut seats, turns) else {
-        return None;
-    };
-    if zero.number() == 0 && one.number() == 1 {
-        Some((desk, zero, one))
-    } else {
-        None
-    }
-}
-
-// The book that two seats leave. Seat 1 has just the turns that it uses: two for each of its two moves, one to take
-// over, and one for the last look.
-fn left_by_two<'a, R: Wait>(
-    rt: &R,
-    alloc: Global,
-    inst: &'a Instance,
-    start: &'a Plan,
-    options: &Options,
-) -> Option<Book<'a>>
-    requires start { IsPlanOf inst.now.draft start.now }
-    requires lawful { IsLawful options.now }
-    requires two { options.now.workers ≡ 2 }
-{
-    let Ok(book) = new_book(alloc, inst, start, options, 0) else {
-        return None;
-    };
-    let Some((desk, zero, one)) = two_seats(alloc, book, 6) else {
-        return None;
-    };
-    match after_first_turns(rt, alloc, inst, start, &desk, zero, one, options) {
-        Some((zero, one)) => closed(alloc, desk, zero, one).ok(),
-        None => None,
-    }
-}
-
-// Whether the closed book has the three entries.
-fn leave_three<R: Wait>(rt: &R, alloc: Global, inst: &Instance, start: &Plan) -> bool
-    requires { IsPlanOf inst.now.draft start.now }
-{
-    match left_by_two(rt, alloc, inst, start, &hot(2, 2, 0)) {
-        Some(book) => book.entries().len() == 3,
+    match list_of(alloc, zero, one) {
+        Some(seats) => desk.close(seats).entries().len() == 3,
         None => false,
     }
 }
 
-#[test]
-fn two_seats_by_turns(rt: HostRuntime) {
-    let alloc = rt.alloc();
-    assert!(rt; on_first_admitted(alloc, |inst, start| leave_three(&rt, alloc, inst, start)));
+// Whether seat 1, seat 0 and seat 1 again do what the parts say, and leave three entries.
+fn take_turns<'a, R: Wait>(
+    rt: &R,
+    alloc: Global,
+    scene: &Scene<'_>,
+    desk: Desk<'a>,
+    left: DeskSeat<'a, Entry>,
+    right: DeskSeat<'a, Entry>,
+    zero: &mut Replica<'_>,
+    one: &mut Replica<'_>,
+    buffer: &mut Buffer,
+    acts: &str,
+) -> bool
+    requires left { (number_of left ≡ 0) × IsFollowed desk left zero.old }
+    requires right { (number_of right ≡ 1) × IsFollowed desk right one.old }
+    requires two { worker_count desk ≡ 2 }
+    requires over { IsOver scene.now.inst.now.draft scene.now.options (base_of desk) }
+{
+    let (first, acts) = cut(acts, "\n\n");
+    let (second, third) = cut(acts, "\n\n");
+    let (right, is_first) = step_all(rt, scene, &desk, right, one, buffer, first);
+    let (left, is_second) = step_all(rt, scene, &desk, left, zero, buffer, second);
+    let (right, is_third) = step_all(rt, scene, &desk, right, one, buffer, third);
+    closes_with_three(alloc, desk, left, right) && is_first && is_second && is_third
+}
+
+// Whether a worker with seat 0 makes its moves, and seat 1 then does what the lines say.
+fn work_beside<'a, R: Threads + Wait + Sync>(
+    rt: &R,
+    alloc: Global,
+    scene: &Scene<'a>,
+    desk: &Desk<'a>,
+    left: DeskSeat<'a, Entry>,
+    right: DeskSeat<'a, Entry>,
+    one: &mut Replica<'_>,
+    buffer: &mut Buffer,
+    lines: &str,
+) -> bool
+    requires given { IsGiven scene.now.inst.now.draft scene.now.start.now scene.now.options }
+    requires base { base_of desk.now ≡ base_with scene.now.inst.now.draft scene.now.start.now scene.now.options 0 }
+    requires left { IsNewSeat 32 desk.now left }
+    requires right { IsFollowed desk.now right one.old }
+    requires turns { enough_turns scene.now.options ≤ 32 }
+{
+    let works = works(rt, alloc, scene, desk, left);
+    let (_seat, is_so) = step_all(rt, scene, desk, right, one, buffer, lines);
+    works && is_so
+}
+
+// Whether the parts come out so at a desk with two seats.
+fn act_in_seats<'a, R: Threads + Wait + Sync>(
+    rt: &R,
+    alloc: Global,
+    scene: &Scene<'a>,
+    desk: Desk<'a>,
+    seats: Vec<DeskSeat<'a, Entry>>,
+    zero: &mut Replica<'_>,
+    one: &mut Replica<'_>,
+    buffer: &mut Buffer,
+    acts: &str,
+) -> bool
+    requires given { IsGiven scene.now.inst.now.draft scene.now.start.now scene.now.options }
+    requires base { base_of desk ≡ base_with scene.now.inst.now.draft scene.now.start.now scene.now.options 0 }
+    requires new { All (IsNewSeat 32 desk) seats.items }
+    requires numbers { (k : ℕ) → k < 2 → slice_index (map number_of seats.items) k ≡ k }
+    requires few { (scene.now.options.workers ≡ 2) × (enough_turns scene.now.options ≤ 32) }
+    requires replicas { IsReplicaOf (base_of desk) [] zero.old × IsReplicaOf (base_of desk) [] one.old }
+{
+    let (first, lines) = cut(acts, "\n\n");
+    match two_of(seats) {
+        Some((left, right)) => {
+            if first == "works" {
+                work_beside(rt, alloc, scene, &desk, left, right, one, buffer, lines)
+            } else {
+                take_turns(rt, alloc, scene, desk, left, right, zero, one, buffer, acts)
+            }
+        }
+        None => false,
+    }
+}
+
+// Whether there are two workers, each with two moves that it tries once.
+fn are_two_by_two(options: &Options) -> bool
+    ensures { IsTrue result → (options.now.workers ≡ 2) × (enough_turns options.now ≤ 32) }
+{
+    options.workers == 2 && options.moves == 2 && options.retries == 0
+}
+
+/// Whether the parts come out so at a desk over a new book, where no day is frozen.
+pub(crate) fn act_at_desk<'a, R: Threads + Wait + Sync>(
+    rt: &R,
+    alloc: Global,
+    scene: &Scene<'a>,
+    book: Book<'a>,
+    zero: &mut Replica<'_>,
+    one: &mut Replica<'_>,
+    buffer: &mut Buffer,
+    acts: &str,
+) -> bool
+    requires given { IsGiven scene.now.inst.now.draft scene.now.start.now scene.now.options }
+    requires base { book.base ≡ base_with scene.now.inst.now.draft scene.now.start.now scene.now.options 0 }
+    requires empty { book.entries ≡ [] }
+    requires replicas { IsReplicaOf book.base [] zero.old × IsReplicaOf book.base [] one.old }
+{
+    if !are_two_by_two(&scene.options) {
+        return false;
+    }
+    match Desk::open(alloc, book, 2, 32) {
+        Ok((desk, seats)) => act_in_seats(rt, alloc, scene, desk, seats, zero, one, buffer, acts),
+        Err(_) => false,
+    }
 }

@@ -1,28 +1,38 @@
-//! Scenes on the ward of two patients: what two workers do over one book, line by line, and what comes of it.
+//! What two workers do over one book, line by line, and what comes of it.
 //!
-//! A scene begins with a journal's heading. Each line behind it has a worker's number, or `book`, then what is done or
-//! told, and then what comes of it. An entry stands as its line in the journal.
+//! Each line has a worker's number, or `book`, then what is done or told, and then what comes of it. An entry stands as
+//! its line in the journal.
 
-ghost use Rattle.std.specs.Prelude.{◌≡◌, []};
+ghost use Rattle.std.specs.Prelude.{◌≡◌};
 ghost use Rattle.ih_plan.specs.Timetable.{IsPlanOf};
-ghost use Rattle.ih_journal.specs.Settings.{IsLawful};
-ghost use Rattle.ih_cellbook.specs.{Keeping.base_with, Replicas.IsReplicaIn, Replicas.IsReplicaOf, ReplicaState.ReplicaState};
+ghost use Rattle.ih_cellbook.specs.Replicas.{IsReplicaIn};
+ghost use Rattle.ih_search_tests.specs.Scenes.{IsOver, StayIn};
 
-use crate::tests::histories::{is_exact, is_start};
+use crate::tests::histories::{bill_after, is_exact};
 use crate::tests::rounds::{advance, catch_up, is_priced, offer};
 use crate::tests::words::{number, pair, word};
 use ih_cellbook::{Book, Buffer, News};
 use ih_footprint::Numbering;
-use ih_journal::{Entry, Options, Verdict, parse_head, parse_line};
+use ih_journal::{Entry, Options, Verdict, parse_line};
 use ih_plan::{Move, Plan};
 use ih_snapshot::Replica;
 use ih_tables::Instance;
 use ih_validate::bill;
 use std::alloc::Global;
 
-// Whether the book's entry at a place is this one.
-fn is_at(book: &Book<'_>, place: u32, entry: &Entry) -> bool {
-    match book.entries().get(place as usize) {
+/// What a scene is played on: a ward, a timetable of it with which the search begins, and the search's options. Days
+/// before `freeze` are frozen.
+#[derive(Clone, Copy)]
+pub(crate) struct Scene<'w> {
+    pub(crate) inst: &'w Instance,
+    pub(crate) start: &'w Plan,
+    pub(crate) options: Options,
+    pub(crate) freeze: u32,
+}
+
+/// Whether the entry at a place is this one.
+pub(crate) fn is_at(entries: &[Entry], place: u32, entry: &Entry) -> bool {
+    match entries.get(place as usize) {
         Some(there) => {
             (there.worker, there.number, there.again, there.seen)
                 == (entry.worker, entry.number, entry.again, entry.seen)
@@ -35,55 +45,41 @@ fn is_at(book: &Book<'_>, place: u32, entry: &Entry) -> bool {
 }
 
 // Whether the worker may offer its move, and the entry of that has this line.
-fn offers(
-    inst: &Instance,
-    book: &mut Book<'_>,
-    replica: &mut Replica<'_>,
-    options: &Options,
-    line: &str,
-) -> bool
-    requires instance { inst.now.draft ≡ book.old.base.instance }
-    requires options { options.now ≡ book.old.base.options }
+fn offers(scene: &Scene<'_>, book: &mut Book<'_>, replica: &mut Replica<'_>, line: &str) -> bool
+    requires over { IsOver scene.now.inst.now.draft scene.now.options book.old.base }
     requires replica { IsReplicaIn book.old.base book.old.entries replica.old }
     ensures base { book.new.base ≡ book.old.base }
     ensures replica { IsReplicaIn book.old.base book.new.entries replica.new }
-    ensures others { (r : ReplicaState) → IsReplicaIn book.old.base book.old.entries r
-        → IsReplicaIn book.old.base book.new.entries r }
+    ensures others { StayIn book.old.base book.old.entries book.new.entries }
 {
-    match parse_line(inst, options, line.as_bytes()) {
+    match parse_line(scene.inst, &scene.options, line.as_bytes()) {
         Ok((place, entry)) => {
-            offer(book, replica, options, &entry.mv, entry.number) == Some(entry.verdict)
-                && is_at(book, place, &entry)
+            offer(book, replica, &scene.options, &entry.mv, entry.number) == Some(entry.verdict)
+                && is_at(book.entries(), place, &entry)
         }
         Err(_) => false,
     }
 }
 
 // Whether the worker prices the move of a line so.
-fn prices(
-    inst: &Instance,
-    book: &Book<'_>,
-    replica: &mut Replica<'_>,
-    options: &Options,
-    text: &str,
-) -> bool
-    requires instance { inst.now.draft ≡ book.now.base.instance }
+fn prices(scene: &Scene<'_>, book: &Book<'_>, replica: &mut Replica<'_>, text: &str) -> bool
+    requires instance { scene.now.inst.now.draft ≡ book.now.base.instance }
     requires replica { IsReplicaIn book.now.base book.now.entries replica.old }
     ensures { IsReplicaIn book.now.base book.now.entries replica.new }
 {
     let (score, text) = word(text);
     let (reads, line) = word(text);
-    match parse_line(inst, options, line.as_bytes()) {
-        Ok((_, entry)) => is_priced(inst, book, replica, &entry, score, reads),
+    match parse_line(scene.inst, &scene.options, line.as_bytes()) {
+        Ok((_, entry)) => is_priced(scene.inst, book, replica, &entry, score, reads),
         Err(_) => false,
     }
 }
 
 // Whether so many moves that do nothing, each offered after a look, are accepted.
 fn idles(
+    options: &Options,
     book: &mut Book<'_>,
     replica: &mut Replica<'_>,
-    options: &Options,
     news: &mut News,
     count: u32,
 ) -> bool
@@ -91,8 +87,7 @@ fn idles(
     requires replica { IsReplicaIn book.old.base book.old.entries replica.old }
     ensures base { book.new.base ≡ book.old.base }
     ensures replica { IsReplicaIn book.old.base book.new.entries replica.new }
-    ensures others { (r : ReplicaState) → IsReplicaIn book.old.base book.old.entries r
-        → IsReplicaIn book.old.base book.new.entries r }
+    ensures others { StayIn book.old.base book.old.entries book.new.entries }
 {
     for number in 0..count {
         if catch_up(book, replica, news) != (number, number) {
@@ -107,27 +102,24 @@ fn idles(
 
 // Whether a worker's step comes out so.
 fn steps(
-    inst: &Instance,
+    scene: &Scene<'_>,
     book: &mut Book<'_>,
     replica: &mut Replica<'_>,
-    options: &Options,
     buffer: &mut Buffer,
     news: &mut News,
     text: &str,
 ) -> bool
-    requires instance { inst.now.draft ≡ book.old.base.instance }
-    requires options { options.now ≡ book.old.base.options }
+    requires over { IsOver scene.now.inst.now.draft scene.now.options book.old.base }
     requires replica { IsReplicaIn book.old.base book.old.entries replica.old }
     ensures base { book.new.base ≡ book.old.base }
     ensures replica { IsReplicaIn book.old.base book.new.entries replica.new }
-    ensures others { (r : ReplicaState) → IsReplicaIn book.old.base book.old.entries r
-        → IsReplicaIn book.old.base book.new.entries r }
+    ensures others { StayIn book.old.base book.old.entries book.new.entries }
 {
     let (verb, text) = word(text);
     match verb {
-        "offers" => offers(inst, book, replica, options, text),
-        "prices" => prices(inst, book, replica, options, text),
-        "idles" => idles(book, replica, options, news, number(text)),
+        "offers" => offers(scene, book, replica, text),
+        "prices" => prices(scene, book, replica, text),
+        "idles" => idles(&scene.options, book, replica, news, number(text)),
         "looks" => catch_up(book, replica, news) == pair(text),
         "copies" => advance(book, replica, buffer) == pair(text),
         _ => false,
@@ -163,27 +155,23 @@ fn copied(book: &Book<'_>, buffer: &mut Buffer, from: u32) -> (u32, u32) {
 }
 
 // Whether the book tells this.
-fn tells(
-    alloc: Global,
-    inst: &Instance,
-    start: &Plan,
-    book: &Book<'_>,
-    buffer: &mut Buffer,
-    text: &str,
-) -> bool
-    requires start { IsPlanOf inst.now.draft start.now }
-    requires instance { inst.now.draft ≡ book.now.base.instance }
+fn tells(alloc: Global, scene: &Scene<'_>, book: &Book<'_>, buffer: &mut Buffer, text: &str) -> bool
+    requires start { IsPlanOf scene.now.inst.now.draft scene.now.start.now }
+    requires instance { scene.now.inst.now.draft ≡ book.now.base.instance }
 {
     let (verb, text) = word(text);
     let (first, text) = word(text);
     let first = number(first);
     match verb {
         "copies" => copied(book, buffer, first) == pair(text),
-        "version" => has_version(inst, book, first, number(text)),
-        "untouched" => are_untouched(inst, book),
+        "version" => has_version(scene.inst, book, first, number(text)),
+        "untouched" => are_untouched(scene.inst, book),
         "best" => book.best() == Some((first, i64::from(number(text)))),
-        "exact" => is_exact(alloc, inst, start, book, first),
-        "start" => is_start(alloc, inst, start, book, first),
+        "exact" => is_exact(alloc, scene.inst, scene.start, book, first),
+        "start" => {
+            bill_after(alloc, scene.inst, scene.start, book, first)
+                == Some(bill(scene.inst, scene.start))
+        }
         _ => false,
     }
 }
@@ -191,19 +179,16 @@ fn tells(
 // Whether a line comes out so.
 fn acts(
     alloc: Global,
-    inst: &Instance,
-    start: &Plan,
+    scene: &Scene<'_>,
     book: &mut Book<'_>,
     zero: &mut Replica<'_>,
     one: &mut Replica<'_>,
-    options: &Options,
     buffer: &mut Buffer,
     news: &mut News,
     line: &str,
 ) -> bool
-    requires start { IsPlanOf inst.now.draft start.now }
-    requires instance { inst.now.draft ≡ book.old.base.instance }
-    requires options { options.now ≡ book.old.base.options }
+    requires start { IsPlanOf scene.now.inst.now.draft scene.now.start.now }
+    requires over { IsOver scene.now.inst.now.draft scene.now.options book.old.base }
     requires zero { IsReplicaIn book.old.base book.old.entries zero.old }
     requires one { IsReplicaIn book.old.base book.old.entries one.old }
     ensures base { book.new.base ≡ book.old.base }
@@ -212,140 +197,33 @@ fn acts(
 {
     let (who, text) = word(line);
     match who {
-        "0" => steps(inst, book, zero, options, buffer, news, text),
-        "1" => steps(inst, book, one, options, buffer, news, text),
-        _ => tells(alloc, inst, start, book, buffer, text),
+        "0" => steps(scene, book, zero, buffer, news, text),
+        "1" => steps(scene, book, one, buffer, news, text),
+        _ => tells(alloc, scene, book, buffer, text),
     }
 }
 
-// Whether each line comes out so.
-fn act_all(
+/// Whether each line comes out so.
+pub(crate) fn act_all(
     alloc: Global,
-    inst: &Instance,
-    start: &Plan,
+    scene: &Scene<'_>,
     book: &mut Book<'_>,
     zero: &mut Replica<'_>,
     one: &mut Replica<'_>,
-    options: &Options,
     buffer: &mut Buffer,
     news: &mut News,
     lines: &str,
 ) -> bool
-    requires start { IsPlanOf inst.now.draft start.now }
-    requires instance { inst.now.draft ≡ book.old.base.instance }
-    requires options { options.now ≡ book.old.base.options }
+    requires start { IsPlanOf scene.now.inst.now.draft scene.now.start.now }
+    requires over { IsOver scene.now.inst.now.draft scene.now.options book.old.base }
     requires zero { IsReplicaIn book.old.base book.old.entries zero.old }
     requires one { IsReplicaIn book.old.base book.old.entries one.old }
     ensures base { book.new.base ≡ book.old.base }
 {
     for line in lines.split('\n') {
-        if !acts(
-            alloc, inst, start, book, zero, one, options, buffer, news, line,
-        ) {
+        if !acts(alloc, scene, book, zero, one, buffer, news, line) {
             return false;
         }
     }
     true
-}
-
-// The same with room for copies and news.
-fn act_with_room(
-    alloc: Global,
-    inst: &Instance,
-    start: &Plan,
-    book: &mut Book<'_>,
-    zero: &mut Replica<'_>,
-    one: &mut Replica<'_>,
-    options: &Options,
-    lines: &str,
-) -> bool
-    requires start { IsPlanOf inst.now.draft start.now }
-    requires instance { inst.now.draft ≡ book.old.base.instance }
-    requires options { options.now ≡ book.old.base.options }
-    requires zero { IsReplicaIn book.old.base book.old.entries zero.old }
-    requires one { IsReplicaIn book.old.base book.old.entries one.old }
-{
-    let Ok(mut buffer) = Buffer::new(alloc) else {
-        return false;
-    };
-    match News::new(alloc) {
-        Ok(mut news) => act_all(
-            alloc,
-            inst,
-            start,
-            book,
-            zero,
-            one,
-            options,
-            &mut buffer,
-            &mut news,
-            lines,
-        ),
-        Err(_) => false,
-    }
-}
-
-// The same where worker 1 is new.
-fn act_with_one(
-    alloc: Global,
-    inst: &Instance,
-    start: &Plan,
-    book: &mut Book<'_>,
-    zero: &mut Replica<'_>,
-    options: &Options,
-    freeze: u32,
-    lines: &str,
-) -> bool
-    requires start { IsPlanOf inst.now.draft start.now }
-    requires lawful { IsLawful options.now }
-    requires base { book.old.base ≡ base_with inst.now.draft start.now options.now freeze }
-    requires empty { book.old.entries ≡ [] }
-    requires zero { IsReplicaOf book.old.base [] zero.old }
-{
-    match Replica::new(alloc, inst, start, options, freeze, 1) {
-        Ok(mut one) => act_with_room(alloc, inst, start, book, zero, &mut one, options, lines),
-        Err(_) => false,
-    }
-}
-
-// The same where both are.
-fn played(
-    alloc: Global,
-    inst: &Instance,
-    start: &Plan,
-    book: &mut Book<'_>,
-    options: &Options,
-    freeze: u32,
-    lines: &str,
-) -> bool
-    requires start { IsPlanOf inst.now.draft start.now }
-    requires lawful { IsLawful options.now }
-    requires base { book.old.base ≡ base_with inst.now.draft start.now options.now freeze }
-    requires empty { book.old.entries ≡ [] }
-{
-    match Replica::new(alloc, inst, start, options, freeze, 0) {
-        Ok(mut zero) => act_with_one(alloc, inst, start, book, &mut zero, options, freeze, lines),
-        Err(_) => false,
-    }
-}
-
-/// Whether a scene comes out so over a book that begins with this timetable, where days before `freeze` are frozen.
-pub(crate) fn comes_out_so(
-    alloc: Global,
-    inst: &Instance,
-    start: &Plan,
-    freeze: u32,
-    scene: &str,
-) -> bool
-    requires { IsPlanOf inst.now.draft start.now }
-{
-    let (heading, lines) = scene.split_once("\n").unwrap_or((scene, ""));
-    let Some(options) = parse_head(heading.as_bytes()) else {
-        return false;
-    };
-    let first = bill(inst, start);
-    match Book::new(alloc, inst, start, &first, &options, freeze) {
-        Ok(mut book) => played(alloc, inst, start, &mut book, &options, freeze, lines),
-        Err(_) => false,
-    }
 }

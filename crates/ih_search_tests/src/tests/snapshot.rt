@@ -1,12 +1,14 @@
-//! What workers see of each other over one book.
+//! What workers see of each other over one book, and at one desk.
 
 ghost use Rattle.ih_plan.specs.Timetable.{IsPlanOf};
 
-use crate::tests::scenes::comes_out_so;
+use crate::tests::playing::comes_out_so;
 use ih_fixtures::on_first_admitted;
 use ih_plan::Plan;
 use ih_tables::Instance;
 use std::alloc::Global;
+use std::sync::Wait;
+use std::thread::Threads;
 
 // The price of joining the first patient rests on the stay, the room and the theatre on the day, the surgeon's day, the
 // room and its nurse in three shifts, and who cares for the patient, also where it is too dear to be accepted.
@@ -78,19 +80,52 @@ book copies 256 256 600
 book copies 512 88 600
 book copies 600 0 600";
 
-fn come_out_so(alloc: Global, inst: &Instance, start: &Plan) -> bool
+// At a desk the night goes to the second nurse and back again. Then the other worker, who has seen neither, offers a
+// price that both have made stale. The first one's last look shows that too.
+const BY_TURNS: &str = "ihjournal 1 seed=0 workers=2 moves=2 heat=1000000 hard=1000
+desk
+offers 0 1 0 0 nurse:0,2,1 0,0,0,0,0,0,0,0,0,0,-2,2,0,0,0,0,0 accepted
+follows
+offers 1 1 1 1 nurse:0,2,0 0,0,0,0,0,0,0,0,0,0,2,-2,0,0,0,0,0 accepted
+counts 2 2
+
+offers 2 0 0 0 place:1,0,0,1 1,0,0,0,0,0,1,0,0,1,6,1,3,1,1,0,-1 stale:roomshift.0.2:0:2
+counts 3 1
+
+counts 2 2
+looks 3 3
+counts 3 2
+shows 2 0 0 0 place:1,0,0,1 1,0,0,0,0,0,1,0,0,1,6,1,3,1,1,0,-1 stale:roomshift.0.2:0:2";
+
+// A worker makes its two draws beside a seat that looks. Both are accepted.
+const WORKS: &str = "ihjournal 1 seed=0 workers=2 moves=2 heat=0 hard=1000
+desk
+works
+
+looks 2 2
+shows 0 0 0 0 nurserun:1,0,0,5 0,0,0,0,0,0,0,0,0,0,-2,0,0,0,0,0,0 accepted
+shows 1 0 1 1 nurse:1,5,0 0,0,0,0,0,0,0,0,0,0,0,0,0,0,0,0,0 accepted";
+
+fn come_out_so<R: Threads + Wait + Sync>(
+    rt: &R,
+    alloc: Global,
+    inst: &Instance,
+    start: &Plan,
+) -> bool
     requires { IsPlanOf inst.now.draft start.now }
 {
-    for scene in [DEAR, BEHIND, STALE, AGAIN, TRACE, BOTH, IDLE] {
-        if !comes_out_so(alloc, inst, start, 0, scene) {
+    for scene in [
+        DEAR, BEHIND, STALE, AGAIN, TRACE, BOTH, IDLE, BY_TURNS, WORKS,
+    ] {
+        if !comes_out_so(rt, alloc, inst, start, 0, scene) {
             return false;
         }
     }
-    comes_out_so(alloc, inst, start, 1, FROZEN)
+    comes_out_so(rt, alloc, inst, start, 1, FROZEN)
 }
 
 #[test]
 fn workers_see_what_others_touched(rt: HostRuntime) {
     let alloc = rt.alloc();
-    assert!(rt; on_first_admitted(alloc, |inst, start| come_out_so(alloc, inst, start)));
+    assert!(rt; on_first_admitted(alloc, |inst, start| come_out_so(&rt, alloc, inst, start)));
 }

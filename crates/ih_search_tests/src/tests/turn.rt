@@ -1,8 +1,9 @@
 //! Turns over lists of numbers, by seats one after the other and in threads.
 
-ghost use Rattle.std.specs.Prelude.{◌≡◌, ◌+◌, ◌-◌, ◌*◌, ◌^◌, ◌<◌, ◌≤◌};
+ghost use Rattle.std.specs.Prelude.{◌≡◌, ℕ, ◌+◌, ◌-◌, ◌*◌, ◌^◌, ◌<◌, ◌≤◌, All, map, slice_index};
 ghost use Rattle.ih_turn.specs.Seats.{IsSeatOf, seat_count, number_of, turns_left};
 
+use crate::tests::seats::{list_of, two_of};
 use ih_turn::{Kept, Seat, Turn};
 use std::alloc::{AllocError, Global};
 use std::sync::Wait;
@@ -134,14 +135,10 @@ fn closes_with(
     requires own { (seat_count turn ≡ 2) × IsSeatOf turn one × IsSeatOf turn two }
     requires numbers { (number_of one ≡ 0) × (number_of two ≡ 1) }
 {
-    let mut seats = Vec::new(alloc);
-    let Ok(()) = seats.push(one) else {
-        return false;
-    };
-    let Ok(()) = seats.push(two) else {
-        return false;
-    };
-    has_just(&turn.close(seats), fives, sixes)
+    match list_of(alloc, one, two) {
+        Some(seats) => has_just(&turn.close(seats), fives, sixes),
+        None => false,
+    }
 }
 
 // Whether two seats, each of which adds its number in each of so many turns in a thread of its own, leave just these.
@@ -193,8 +190,33 @@ fn first_adds<R: Wait>(
     }
 }
 
-// Whether two seats with so many turns leave what they are to, in threads of their own or one after the other.
+// Whether the two seats of a turn, in this list, leave what they are to, in threads of their own or one after the other.
 fn two_leave_theirs<R: Threads + Wait + Sync>(
+    rt: &R,
+    alloc: Global,
+    turn: Turn<Numbers>,
+    seats: Vec<Seat<Numbers>>,
+    turns: u64,
+    in_threads: bool,
+) -> bool
+    requires two { (seat_count turn ≡ 2) × (0 < turns) }
+    requires own { All (λ s. IsSeatOf turn s × (turns_left s ≡ turns)) seats.items }
+    requires numbers { (k : ℕ) → k < 2 → slice_index (map number_of seats.items) k ≡ k }
+{
+    match two_of(seats) {
+        Some((one, two)) => {
+            if in_threads {
+                both_add(rt, alloc, turn, one, two, turns)
+            } else {
+                first_adds(rt, alloc, turn, one, two)
+            }
+        }
+        None => false,
+    }
+}
+
+// The same of two new seats with so many turns.
+fn new_two_leave_theirs<R: Threads + Wait + Sync>(
     rt: &R,
     alloc: Global,
     turns: u64,
@@ -205,32 +227,20 @@ fn two_leave_theirs<R: Threads + Wait + Sync>(
     let empty = Numbers {
         items: Vec::new(alloc),
     };
-    let Ok((turn, mut seats)) = Turn::new(alloc, empty, 2, turns) else {
-        return false;
-    };
-    let Some(two) = seats.pop() else {
-        return false;
-    };
-    let Some(one) = seats.pop() else {
-        return false;
-    };
-    if one.number() != 0 || two.number() != 1 {
-        false
-    } else if in_threads {
-        both_add(rt, alloc, turn, one, two, turns)
-    } else {
-        first_adds(rt, alloc, turn, one, two)
+    match Turn::new(alloc, empty, 2, turns) {
+        Ok((turn, seats)) => two_leave_theirs(rt, alloc, turn, seats, turns, in_threads),
+        Err(_) => false,
     }
 }
 
 #[test]
 fn two_threads_leave_two_thousand(rt: HostRuntime) {
-    assert!(rt; two_leave_theirs(&rt, rt.alloc(), 1000, true));
+    assert!(rt; new_two_leave_theirs(&rt, rt.alloc(), 1000, true));
 }
 
 #[test]
 fn a_list_of_five_alone(rt: HostRuntime) {
-    assert!(rt; two_leave_theirs(&rt, rt.alloc(), 2, false));
+    assert!(rt; new_two_leave_theirs(&rt, rt.alloc(), 2, false));
 }
 
 // In one thread, in two, and in as many as a search may have.

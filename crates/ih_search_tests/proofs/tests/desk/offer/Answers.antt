@@ -1,16 +1,20 @@
-use Rattle.std.proofs.Common.{◌≡◌, ◌<◌, ◌∙◌, ◌++◌, ap, arith, sym, subst, List, drop, take, Some}
+use Rattle.std.proofs.Common.{◌≡◌, ◌<◌, ◌∙◌, ◌++◌, ap, arith, sym, subst, List, drop, Some}
 use Rattle.ih_journal.specs.declared.settings.Options.{Options}
 use Rattle.ih_journal.specs.Tried.{Tried}
-use Rattle.ih_turn.specs.Seats.{history, number_of}
+use Rattle.ih_turn.specs.Seats.{history}
 use Rattle.ih_cellbook.specs.BufferState.{BufferState}
 use Rattle.ih_cellbook.specs.Laws.{HasNoneBy}
 use Rattle.ih_cellbook.specs.Offers.{next_number}
 use Rattle.ih_cellbook.specs.Replicas.{IsReplicaIn}
 use Rattle.ih_cellbook.proofs.Within.{offered-right, stands-behind, stands-same}
 use Rattle.ih_desk.specs.Desks.{base_of}
-use Rattle.ih_desk.proofs.CatchingUp.{stays}
 use Rattle.ih_search_tests.proofs.Desks.{whole-is}
 use Rattle.ih_search_tests.proofs.tests.desk.offer.Goals as goal
+
+pub look-seat-requires : goal.look-seat-requires
+look-seat-requires g c =
+    let left = c.requires.left in
+    record { may = record { own = c.requires.seat.own; left = omega (arith, left); within = omega arith }; replica = c.requires.seat.replica }
 
 pub offer-seat-requires : goal.offer-seat-requires
 offer-seat-requires g c =
@@ -20,10 +24,9 @@ offer-seat-requires g c =
     let o = c.offer-offer.result.now in
     let looked = c.look-seat.ensures.looked in
     let shown = c.look-seat.ensures.copied in
-    let stands = stays b (number_of c.args.seat) (history c.args.seat) H r looked.goes_on c.requires.replica in
+    let stands = c.look-seat.ensures.replica in
     let may = c.may_offer.ensures c.if-may_offer.true in
-    let from = ap (λ (x : BufferState). x.from) c.set_from.ensures in
-    let part = ap (λ (x : BufferState). x.entries) shown ∙ ap (λ k. take 256 (drop k H)) from in
+    let part = ap (λ (x : BufferState). x.entries) shown in
     let whole = whole-is H c.look-seat.new.buffer.entries part (may.0 ∙ ap (λ (x : BufferState). x.front) shown) in
     let used = looked.left in
     let had = c.requires.left in
@@ -32,7 +35,7 @@ offer-seat-requires g c =
         own = looked.own;
         left = omega (arith, used, had);
         worker = may.1 ∙ c.number-worker.ensures;
-        right = offered-right b H r stands c.args.attempt_no _ _ c.offer-offer.ensures.offer c.offer-offer.ensures.right (
+        right = offered-right b H r stands c.args.entry.now.number _ _ c.offer-offer.ensures.offer c.offer-offer.ensures.right (
           subst (λ (s : Options). o.worker < s.workers) c.requires.options may.2,
           subst (λ (s : Options). next_number s H o.worker ≡ Some o.number) c.requires.options
               (subst (λ (G : List Tried). next_number c.args.options.now G o.worker ≡ Some o.number) whole may.3),
@@ -41,19 +44,30 @@ offer-seat-requires g c =
       };
     }
 
-pub returns-then-may_offer-clause-replica : goal.returns-then-may_offer-clause-replica
-returns-then-may_offer-clause-replica g c =
+pub returns-then-may_offer : goal.returns-then-may_offer
+returns-then-may_offer g c =
     let b = base_of c.args.desk.now in
     let H = history c.look-seat.result in
     let s = c.offer-offer.follows.lender-at-none in
-    let stands = stays b (number_of c.args.seat) (history c.args.seat) H c.args.replica.now c.look-seat.ensures.looked.goes_on c.requires.replica in
-    let same = stands-same b H c.args.replica.now stands s c.offer-offer.follows.holds-at-none.2 in
-    let ends = c.offer-seat.ensures.offered.ends in
-    subst (λ G. IsReplicaIn b G s) (sym ends.history) (stands-behind b (H ++ ends.others) s (stands-behind b H s same ends.others) _)
+    let same = stands-same b H c.args.replica.now c.look-seat.ensures.replica s c.offer-offer.follows.holds-at-none.2 in
+    let offered = c.offer-seat.ensures.offered in
+    let ends = offered.ends in
+    record {
+      followed = record {
+        own = offered.own;
+        replica = subst (λ G. IsReplicaIn b G s) (sym ends.history) (stands-behind b (H ++ ends.others) s (stands-behind b H s same ends.others) _);
+      };
+      number = offered.number ∙ c.look-seat.ensures.looked.number;
+    }
 
-pub returns-else-may_offer-clause-replica : goal.returns-else-may_offer-clause-replica
-returns-else-may_offer-clause-replica g c =
-    let b = base_of c.args.desk.now in
-    let H = history c.look-seat.result in
-    let stands = stays b (number_of c.args.seat) (history c.args.seat) H c.args.replica.now c.look-seat.ensures.looked.goes_on c.requires.replica in
-    stands-same b H c.args.replica.now stands c.offer-offer.follows.lender-at-none c.offer-offer.follows.holds-at-none.2
+pub returns-else-may_offer : goal.returns-else-may_offer
+returns-else-may_offer g c =
+    let looked = c.look-seat.ensures.looked in
+    record {
+      followed = record {
+        own = looked.own;
+        replica = stands-same (base_of c.args.desk.now) (history c.look-seat.result) c.args.replica.now c.look-seat.ensures.replica
+            c.offer-offer.follows.lender-at-none c.offer-offer.follows.holds-at-none.2;
+      };
+      number = looked.number;
+    }

@@ -4,7 +4,7 @@ use Rattle.std.proofs.lemmas.Option.{slice_get-get_or}
 use Rattle.ih_tables.specs.declared.drafts.Draft.{Draft}
 use Rattle.ih_plan.specs.Series.{AreMoves}
 use Rattle.ih_journal.specs.Tried.{Tried, tries}
-use Rattle.ih_search_tests.proofs.tests.histories.plan_after.Goals as goal
+use Rattle.ih_search_tests.proofs.tests.histories.bill_after.Goals as goal
 
 pub plan_at-requires-clause-moves : goal.plan_at-requires-clause-moves
 plan_at-requires-clause-moves c =

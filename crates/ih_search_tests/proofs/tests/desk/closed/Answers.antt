@@ -1,7 +1,0 @@
-use Rattle.ih_search_tests.proofs.TwoNumbers.{both_numbers}
-use Rattle.ih_search_tests.proofs.tests.desk.closed.Goals as goal
-
-pub close-requires-clause-all : goal.close-requires-clause-all
-close-requires-clause-all c =
-    both_numbers (λ s. s.number) c.args.zero c.args.one _ _ _ c.new-seats.ensures.items c.in_ok-push.ensures.items c.in_ok-push-2.ensures.items
-    c.requires.numbers.0 c.requires.numbers.1 _ c.requires.own.0
