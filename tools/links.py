@@ -3,7 +3,7 @@
 each name of the code that stands in backticks is in the code, and no line is longer than 120 columns. Prints what is
 wrong; the exit status is 1 if anything is.
 
-    python3 bench/links.py
+    python3 tools/links.py
 """
 import os
 import re
@@ -31,7 +31,7 @@ def anchors(text):
 def code_words():
     """All words of the crates and scripts, and the names of their files."""
     words = set()
-    for folder in ("crates", "bench", "examples"):
+    for folder in ("crates", "bench", "tools", "examples"):
         for path, folders, files in os.walk(os.path.join(TOP, folder)):
             folders[:] = [f for f in folders if f != "out"]
             words.update(w for name in folders + files for w in re.findall(r"\w+", name))
@@ -56,7 +56,7 @@ def faults(name, texts, words):
             yield f"no file for the link {link}"
         elif place and place not in anchors(texts.get(target, "")):
             yield f"no heading for the link {link}"
-    for path in re.findall(r"(?<![\w/])(?:docs|bench|examples|\.ci)/[\w.\-/]*\w", text):
+    for path in re.findall(r"(?<![\w/])(?:docs|bench|tools|examples|\.ci)/[\w.\-/]*\w", text):
         if not os.path.exists(os.path.join(TOP, path)):
             yield f"no file {path}"
     for quoted in re.findall(r"`([^`\n]+)`", without_code(text)):

@@ -1,9 +1,9 @@
 #!/usr/bin/env python3
 """Checks the examples of the documents: docs/FORMATS.md shows the files of examples/ byte for byte, so does the test
-that reads them, and the program accepts them and prints and writes what FORMATS and README show. Prints what is wrong;
-the exit status is 1 if anything is, and 2 if there is no program.
+that reads them, and the program accepts them and prints and writes what FORMATS shows. Prints what is wrong; the exit
+status is 1 if anything is, and 2 if there is no program.
 
-    python3 bench/examples.py        by environment: IH (the program; else crates/ih_main/out/ih_main)
+    python3 tools/examples.py        by environment: IH (the program; else crates/ih_main/out/ih_main)
 """
 import os
 import re
@@ -47,10 +47,11 @@ def other_texts(formats):
 
 
 def report_in(formats):
-    return re.search(r"```\n(V1 .*?cost \d+\n)```", formats, flags=re.S).group(1)
+    """The first column of the table of the report."""
+    return "\n".join(re.findall(r"^\| `((?:[VS]\d|cost) [^`]*)` \|", formats, flags=re.M)) + "\n"
 
 
-def calls(formats, readme):
+def calls(formats):
     """Each call of a document, what it prints, and a file that it writes with the bytes that this has then."""
     journal = dict(shown_files(formats))["small.journal"]
     options = re.search(r"small\.journal (--seed .*?) \\\n\s+(--start \S+)", formats)
@@ -58,20 +59,16 @@ def calls(formats, readme):
     words = "examples/small_ward.json plan.json small.journal " + " ".join(options.groups())
     yield "solve " + words, None, ("small.journal", journal)
     yield "replay examples/small_ward.json examples/small.journal again.json " + options.group(2), None, None
-    solve = re.search(r"`\$ih (solve examples/ward\.json .*?)`", readme).group(1)
-    lines = re.findall(r"^\| `((?:[VS]\d|cost) [^`]*)` \|", readme, flags=re.M)
-    yield solve, None, None
-    yield "check examples/ward.json ward.plan", "\n".join(lines) + "\n", None
 
 
 def main():
-    formats, readme = read("docs/FORMATS.md"), read("README.md")
+    formats = read("docs/FORMATS.md")
     wrong = list(other_texts(formats))
     if not os.access(IH, os.X_OK):
         print("\n".join(wrong + [f"no program at {IH}: build it, or name it by IH"]))
         return 2
     with tempfile.TemporaryDirectory() as folder:
-        for words, printed, written in calls(formats, readme):
+        for words, printed, written in calls(formats):
             said = run(folder, words)
             if (said != printed) if printed else not re.search(r"^cost \d+$", said, flags=re.M):
                 wrong.append(f"another text of: {words}")

@@ -1,0 +1,7 @@
+use denote.Text.{Utf8}
+use denote.Shadow.{shadow}
+use Rattle.ih_format_tests.proofs.tests.limits.first_not_limited.Given as goal
+
+-- the file stays text
+abbrev pub invariant-loop-row : goal.invariant-loop-row
+invariant-loop-row l = (goal.iterator-loop-row).can_next l.row-iterator × (goal.iterator-loop-row).is_finite l.row-iterator × shadow (Utf8 l.file)
