@@ -19,8 +19,8 @@ cp -- "$instance" sent/instance.json && cp -- "$planner" sent/ih_planner && tar 
 
 # One host's search, with its number for the seed: the plan comes back on the output, its lines on the error output.
 search() {
-  ssh -o BatchMode=yes -o ConnectTimeout=10 -- "$2" "sh -c 'd=\$(mktemp -d) && cd \"\$d\" && tar xzf - &&
-    ./ih_planner improve instance.json plan.json --seconds $seconds --seed $1 >&2; s=\$?; cat plan.json; cd /; rm -rf \"\$d\"; exit \$s'" \
+  local told="./ih_planner improve instance.json plan.json --seconds $seconds --seed $1 >&2; s=\$?; cat plan.json"
+  ssh -o BatchMode=yes -o ConnectTimeout=10 -- "$2" "sh -c 'd=\$(mktemp -d) && cd \$d && tar xzf - && { $told; }; cd /; rm -rf \$d; exit \$s'" \
     <sent.tgz >"plans/$1.json" 2>"plans/$1.out"
 }
 export -f search
@@ -33,7 +33,7 @@ for host in "${@:4}"; do
       cp -- "$plan" best.new && mv -- best.new best.json && echo "$cost" >best.cost
     fi
   else
-    echo "$host: no plan: $({ cat "plans/$number.out" && [ -s "$plan" ] && "$planner" check "$instance" "$plan" 2>&1; } |
+    echo "$host: no plan: $({ cat "plans/$number.out" && [ ! -s "$plan" ] || "$planner" check "$instance" "$plan" 2>&1 || true; } |
       tail -n 1 | tr -d '\000-\037\177' | grep . || echo nothing came back)"
   fi
 done

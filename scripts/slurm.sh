@@ -23,7 +23,7 @@ lost() { for k in $(seq "$tasks"); do [ -e "plans/$k.over" ] || echo "$k"; done 
 hand_in() {
   local array
   array=$(sbatch --parsable "${options[@]}" --no-requeue -J "$name" -a "$1" -o /dev/null --wrap="exec bash ./slurm.sh --task")
-  sbatch --no-requeue -J "$name" -d "afterany:$array" -o step.out --wrap="exec bash ./slurm.sh --step $2" >/dev/null
+  sbatch "${options[@]}" -c 1 --no-requeue -J "$name" -d "afterany:$array" -o step.out --wrap="exec bash ./slurm.sh --step $2" >/dev/null
 }
 
 # Takes the cheapest plan that is feasible, if it is cheaper than the best, and hands in what was lost.
