@@ -46,14 +46,14 @@ top=$(cd -- "$(dirname -- "$0")/.." && pwd)
 planner=$(realpath -m -- "${PLANNER:-$top/crates/ih_planner/out/ih_planner}")
 [ -x "$planner" ] || fail "no program at $planner"
 [ -r "$1" ] || fail "cannot read $1"
-mkdir -p -- "$2/plans"
+mkdir -p -- "$2/plans" && { [ -e "$2/instance.json" ] || cp -- "$1" "$2/instance.json"; }
+cmp -s -- "$1" "$2/instance.json" || fail "$2 has searches of another instance"
 if [ ! -e "$2/settings" ]; then
-  cp -- "$1" "$2/instance.json" && cp -- "$planner" "$2/ih_planner" && cp -- "$0" "$2/slurm.sh"
+  cp -- "$planner" "$2/ih_planner" && cp -- "$0" "$2/slurm.sh"
   tasks=$3 seconds=$4 options=("${@:5}") && cd -- "$2" && name=ih.$(pwd | cksum | tr -d ' ')
   declare -p tasks seconds options name | sed 's/^declare/declare -g/' >settings
   hand_in "1-$tasks" 1 && echo "$tasks searches of $seconds s are handed in" && exit
 fi
-cmp -s -- "$1" "$2/instance.json" || fail "$2 has searches of another instance"
 cd -- "$2" && . ./settings
 jobs=$(squeue -h --name="$name" --user="$(id -un)" -o %i | wc -l) over=$(find plans -name '*.over' | wc -l)
 if [ "$jobs" -eq 0 ] && [ "$over" -lt "$tasks" ]; then hand_in "$(lost)" 1 && echo "the lost searches are handed in again"; fi
