@@ -6,13 +6,10 @@ use Rattle.ih_answers.specs.declared.status.Status.TheVariants.{ReadFault, Write
 use Rattle.ih_answers.specs.Answers.{HasFileCause}
 use Rattle.ih_answers.specs.Ends.{Ends, HasCause, Received}
 use Rattle.ih_answers.specs.Texts.{ReceivedPart}
+use Rattle.ih_inputs.proofs.Causes.{rose-from}
 use Rattle.ih_answers.proofs.Files.{told-then}
 
 -- ---- counts
-
--- a count that rose later rose from before too
-pub rose-from : (before mid now : ℕ) → before ≤ mid → Rose mid now → Rose before now
-rose-from before mid now le rose = omega arith
 
 module _ (reads mid reads' writes between writes' : ℕ) (le : reads ≤ mid) (under : writes ≤ between) where
   pub file-cause-from : (status : Status) → HasFileCause mid reads' between writes' status → HasFileCause reads reads' writes writes' status

@@ -2,18 +2,18 @@
 use Rattle.std.proofs.Common.{◌≡◌, ◌∙◌, ℕ, refl, sym, ap, subst, inl, inr, List, [], Option, Some}
 use Rattle.std.specs.Prelude.{unwrap_or}
 use Rattle.ih_shelf.specs.Outside.{Names}
-use Rattle.ih_inputs.specs.Errors.{HasFaultCause}
-use Rattle.ih_inputs.specs.Reading.{IsUnread, InputFiles, name_in}
+use Rattle.ih_shelf.specs.declared.outside.Shelf.{Ghosts as ShelfGhosts}
+use Rattle.ih_inputs.specs.Reading.{HasReadCause, IsUnread, InputFiles, name_in}
 use Rattle.ih_answers.specs.Texts.{memory_text}
-use Rattle.ih_inputs.specs.declared.error.InputRole.TheVariants.{Instance as InstanceInput, Journal as JournalInput, Older as OlderInput, Solution as SolutionInput}
+use Rattle.ih_inputs.specs.declared.error.InputRole.TheVariants.{Instance as InstanceInput, Journal as JournalInput, Next as NextInput, Older as OlderInput, Solution as SolutionInput}
 use Rattle.ih_inputs.specs.declared.error.InputError.{InputError}
-use Rattle.ih_inputs.specs.declared.error.InputError.TheVariants.{ReadFault as Unreadable, TooLong as Long, InstanceRefused as NoInstance, OlderRefused as NoOlder, SolutionRefused as NoSolution, OutOfMemory as NoRoom}
+use Rattle.ih_inputs.specs.declared.error.InputError.TheVariants.{ReadFault as Unreadable, TooLong as Long, InstanceRefused as NoInstance, NextRefused as NoNext, OlderRefused as NoOlder, SolutionRefused as NoSolution, OutOfMemory as NoRoom}
 use Rattle.ih_answers.specs.declared.answer.Answer.{Answer}
 use Rattle.ih_answers.specs.declared.status.Role.TheVariants.{Out}
 use Rattle.ih_answers.specs.declared.status.Status.{Status}
 use Rattle.ih_answers.specs.declared.status.Status.TheVariants.{Done, Usage, ReadFault, InstanceRefused, StartRefused, NoneFound, WriteFault, OutOfMemory, JournalRefused, Infeasible, TooLong}
-use Rattle.ih_answers.specs.Answers.{Answers, HasFileCause, IsSaid}
-use Rattle.ih_answers.specs.Inputs.{EndsUnread, IsUnreadInputs, refused_said, role_in, unread_said, unread_status}
+use Rattle.ih_answers.specs.Answers.{Answers, HasShelfCause, IsSaid}
+use Rattle.ih_answers.specs.Inputs.{EndsUnread, HasFailedRead, IsUnreadInputs, refused_said, role_in, unread_said, unread_status}
 use Rattle.ih_answers.proofs.Saying.{IsAnswerable, said-answer, said-status, unsaid-by}
 
 -- ---- their statuses
@@ -35,13 +35,16 @@ error-status (Unreadable InstanceInput) = tt
 error-status (Unreadable SolutionInput) = tt
 error-status (Unreadable OlderInput) = tt
 error-status (Unreadable JournalInput) = tt
+error-status (Unreadable NextInput) = tt
 error-status (Long InstanceInput) = tt
 error-status (Long SolutionInput) = tt
 error-status (Long OlderInput) = tt
 error-status (Long JournalInput) = tt
+error-status (Long NextInput) = tt
 error-status (NoInstance e) = tt
 error-status (NoSolution e) = tt
 error-status (NoOlder e) = tt
+error-status (NoNext e) = tt
 error-status NoRoom = tt
 
 -- the name of a timetable's file
@@ -63,6 +66,7 @@ module _ (files : Option Names) (r : InputFiles) where
   lack-said (NoInstance e) is = absurd (let clash : OutOfMemory ≡ InstanceRefused e = is in cc)
   lack-said (NoSolution e) is = absurd (let clash : OutOfMemory ≡ StartRefused e = is in cc)
   lack-said (NoOlder e) is = absurd (let clash : OutOfMemory ≡ StartRefused e = is in cc)
+  lack-said (NoNext e) is = absurd (let clash : OutOfMemory ≡ InstanceRefused e = is in cc)
   lack-said NoRoom is = refl
 
   pub unread-lack : (text : List ℕ) → EndsUnread files r OutOfMemory text → text ≡ memory_text
@@ -89,12 +93,21 @@ module _ (files : Option Names) (r : InputFiles) where
 
 -- ---- its cause
 
-module _ (reads reads' writes writes' : ℕ) where
-  fault-cause : (e : InputError) → HasFaultCause reads reads' e → HasFileCause reads reads' writes writes' (unread_status e)
-  fault-cause (Unreadable role) h = h
-  fault-cause e h = tt
+module _ {X : Type 0} (shelf : ShelfGhosts X) (r : InputFiles) (old new : X) where
+  counted : (e : InputError) → HasReadCause shelf r old new e → HasShelfCause shelf old new (unread_status e)
+  counted (Unreadable role) h = h.rose
+  counted e h = tt
 
-  pub stopped-cause : (r : InputFiles) (e : InputError) (a : Answer) → HasFaultCause reads reads' e → IsUnreadInputs r e a
-      → HasFileCause reads reads' writes writes' a.status
-  stopped-cause r e a h said =
-      said-status (HasFileCause reads reads' writes writes') (unread_status e) (unread_said r e) a (fault-cause e h) tt said
+  pub stopped-cause : (e : InputError) (a : Answer) → HasReadCause shelf r old new e → IsUnreadInputs r e a → HasShelfCause shelf old new a.status
+  stopped-cause e a h said = said-status (HasShelfCause shelf old new) (unread_status e) (unread_said r e) a (counted e h) tt said
+
+  named-read : (e : InputError) → HasReadCause shelf r old new e → HasFailedRead shelf old new (unread_status e) (unread_said r e)
+  named-read (Unreadable role) h = (name_in r role, refl, h)
+  named-read e h = tt
+
+  pub stopped-read : (e : InputError) (a : Answer) → HasReadCause shelf r old new e → IsUnreadInputs r e a
+      → HasFailedRead shelf old new a.status a.text.items
+  stopped-read e a h (inl lack) = subst (λ s. HasFailedRead shelf old new s a.text.items) (sym lack) tt
+  stopped-read e a h (inr (same, here)) =
+      subst (λ s. HasFailedRead shelf old new s a.text.items) (sym same)
+      (subst (HasFailedRead shelf old new (unread_status e)) (sym here) (named-read e h))

@@ -28,6 +28,10 @@ solution_refused_text r = codes "solution refused: " ++ (refusal_text r ++ codes
 abbrev pub older_refused_text : Refusal → List ℕ
 older_refused_text r = codes "older solution refused: " ++ (refusal_text r ++ codes "\n")
 
+-- the fault of an instance that comes next, and its place
+abbrev pub new_instance_refused_text : Refusal → List ℕ
+new_instance_refused_text r = codes "new instance refused: " ++ (refusal_text r ++ codes "\n")
+
 -- a text after the name of the file that it is about
 abbrev pub after_name : List ℕ → List ℕ → List ℕ
 after_name name text = name ++ (codes ": " ++ text)

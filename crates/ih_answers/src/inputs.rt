@@ -4,13 +4,14 @@ ghost use Rattle.std.specs.Prelude.{◌≡◌, ◌++◌, IfOk, IfErr, codes};
 ghost use Rattle.ih_inputs.specs.Errors.{HasOnlyRead};
 ghost use Rattle.ih_inputs.specs.Reading.{ArePlans, HasGiven, files_of, given_of, name_in};
 ghost use Rattle.ih_answers.specs.Answers.{Answers, HasShelfCause, IsSaid};
-ghost use Rattle.ih_answers.specs.Inputs.{EndsUnread, IsUnreadInputs, refused_said, role_in};
+ghost use Rattle.ih_answers.specs.Inputs.{EndsUnread, HasFailedRead, IsUnreadInputs, refused_said, role_in};
 ghost use Rattle.ih_answers.specs.Texts.{after_name};
 
 use crate::answer::Answer;
 use crate::status::Role;
 use crate::texts::{
-    instance_refused, older_refused, out_of_memory, solution_refused, too_long, unread,
+    instance_refused, new_instance_refused, older_refused, out_of_memory, solution_refused,
+    too_long, unread,
 };
 use ih_inputs::{InputError, InputNames, InputRole, Inputs};
 use ih_shelf::Shelf;
@@ -21,7 +22,7 @@ fn role_in(role: InputRole) -> Role
     ensures { result ≡ role_in role }
 {
     match role {
-        InputRole::Instance => Role::Instance,
+        InputRole::Instance | InputRole::Next => Role::Instance,
         InputRole::Solution | InputRole::Older => Role::Solution,
         InputRole::Journal => Role::Journal,
     }
@@ -82,12 +83,17 @@ fn unread_inputs(alloc: Global, names: &InputNames<'_>, error: InputError) -> An
             let answer = older_refused(alloc, refusal);
             refused(alloc, names, InputRole::Older, answer)
         }
+        InputError::NextRefused(refusal) => {
+            let answer = new_instance_refused(alloc, refusal);
+            refused(alloc, names, InputRole::Next, answer)
+        }
         InputError::OutOfMemory => out_of_memory(alloc),
     }
 }
 
-/// Reads the files of a call: the instance, then the timetable, the older one and the journal where files are named for
-/// them. Where one of them can't be had, the answer says why.
+/// Reads the files of a call: the instance, then the timetable, the older one, the journal and the instance that comes next,
+/// where files are named for them. Where one of them can't be had, the answer says why. A file that is said to be
+/// unreadable is the one of which a read failed.
 pub fn read_or_answer<R: Files, S: Shelf>(
     rt: &R,
     alloc: Global,
@@ -98,6 +104,7 @@ pub fn read_or_answer<R: Files, S: Shelf>(
     ensures read { IfOk result (λ i. HasGiven (S.names shelf.old) (files_of names.now) (given_of i)) }
     ensures unread { IfErr result (Answers (EndsUnread (S.names shelf.old) (files_of names.now))) }
     ensures cause { IfErr result (λ a. HasShelfCause S.Shelf shelf.old shelf.new a.status) }
+    ensures failed { IfErr result (λ a. HasFailedRead S.Shelf shelf.old shelf.new a.status a.text.items) }
     ensures only { HasOnlyRead S.Shelf shelf.old shelf.new }
 {
     match ih_inputs::read_inputs(rt, alloc, names, shelf) {

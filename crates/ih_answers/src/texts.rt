@@ -1,8 +1,8 @@
 //! The answers that say one line, and the one that memory ran out, which carries no text.
 
 ghost use Rattle.std.specs.Prelude.{◌≡◌, Some, string_bytes};
-ghost use Rattle.ih_answers.specs.Texts.{instance_refused_text, older_refused_text, solution_refused_text};
-ghost use Rattle.ih_answers.specs.Texts.{too_long_text, unread_text};
+ghost use Rattle.ih_answers.specs.Texts.{instance_refused_text, new_instance_refused_text, older_refused_text};
+ghost use Rattle.ih_answers.specs.Texts.{solution_refused_text, too_long_text, unread_text};
 ghost use Rattle.ih_answers.specs.Texts.{unwritten_text, none_found_text};
 ghost use Rattle.ih_answers.specs.Answers.{IsSaid, IsSaidOf, IsUnwritten};
 
@@ -78,6 +78,15 @@ pub fn older_refused(alloc: Global, refusal: Refusal) -> Answer
 {
     let text = format!(in alloc; "older solution refused: {refusal}\n");
     said(alloc, Status::StartRefused(refusal), text)
+}
+
+/// An instance that the command carries to is refused.
+#[tactic(auto, using(crate::proofs::Saying::said_by))]
+pub fn new_instance_refused(alloc: Global, refusal: Refusal) -> Answer
+    ensures { IsSaid (Status.InstanceRefused refusal) (new_instance_refused_text refusal) result }
+{
+    let text = format!(in alloc; "new instance refused: {refusal}\n");
+    said(alloc, Status::InstanceRefused(refusal), text)
 }
 
 /// No timetable was found that breaks no hard rule.

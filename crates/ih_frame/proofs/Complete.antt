@@ -6,9 +6,9 @@ use Rattle.ih_tables.specs.declared.refusals.Refusal.{Refusal}
 use Rattle.ih_plan.specs.Timetable.{Timetable}
 use Rattle.ih_shelf.specs.Outside.{Names, Rose}
 use Rattle.ih_inputs.specs.declared.error.InputError.{InputError}
-use Rattle.ih_inputs.specs.declared.error.InputError.TheVariants.{ReadFault as Unreadable, TooLong as Long, InstanceRefused as NoInstance, OlderRefused as NoOlder, SolutionRefused as NoSolution, OutOfMemory as NoRoom}
-use Rattle.ih_inputs.specs.declared.error.InputRole.TheVariants.{Instance as InstanceInput, Journal as JournalInput, Older as OlderInput, Solution as SolutionInput}
-use Rattle.ih_inputs.specs.Reading.{Given, HasBytes, HasGiven, HasInstance, HasJournal, HasOlder, HasPlan, HasSolution, InputFiles, IsNext, IsOlderNext, IsUnread}
+use Rattle.ih_inputs.specs.declared.error.InputError.TheVariants.{ReadFault as Unreadable, TooLong as Long, InstanceRefused as NoInstance, NextRefused as NoNext, OlderRefused as NoOlder, SolutionRefused as NoSolution, OutOfMemory as NoRoom}
+use Rattle.ih_inputs.specs.declared.error.InputRole.TheVariants.{Instance as InstanceInput, Journal as JournalInput, Next as NextInput, Older as OlderInput, Solution as SolutionInput}
+use Rattle.ih_inputs.specs.Reading.{Given, HasBytes, HasGiven, HasInstance, HasJournal, HasNext, HasOlder, HasPlan, HasSolution, InputFiles, IsNext, IsOlderNext, IsUnread}
 use Rattle.ih_answers.specs.declared.status.Status.{Status}
 use Rattle.ih_answers.specs.declared.status.Status.TheVariants.{Done, Infeasible, ReadFault, WriteFault, OutOfMemory}
 use Rattle.ih_answers.specs.Answers.{unsaid}
@@ -68,6 +68,14 @@ module _ (files : Names) (r : InputFiles) (g : Given) (has : HasGiven (Some file
       by-journal None none = absurd none
       by-journal (Some bytes) one = (bytes, one)
 
+  -- and one for the instance that comes next its data
+  next-given : (name : List ℕ) → r.next ≡ Some name → (N : Draft) × HasInstance name N files
+  next-given name named = by-next g.next (subst (λ o. HasNext (Some files) o g.next) named has.next)
+    where
+      by-next : (next : Option Draft) → HasNext (Some files) (Some name) next → (N : Draft) × HasInstance name N files
+      by-next None none = absurd none
+      by-next (Some N) one = (N, one)
+
   -- with no fault, only lack of memory stops the reading
   by-error : (e : InputError) → HasNoFault (unread_status e) → IsUnread (Some files) r e → unread_status e ≡ OutOfMemory
   by-error (Unreadable role) calm h = absurd calm
@@ -81,6 +89,12 @@ module _ (files : Names) (r : InputFiles) (g : Given) (has : HasGiven (Some file
   by-error (NoSolution e) calm (J, name, next, refused) = absurd (not-both _ g.plan e (first-given J name next).read refused.read)
   by-error (NoOlder e) calm (J, name, next, refused) =
       let one = older-given J name next in
+      absurd (not-both _ one.0 e one.1.read refused.read)
+  by-error (Long NextInput) calm (name, last, long) =
+      let one = next-given name last.named in
+      absurd (let short = one.1.short in omega (arith, short, long))
+  by-error (NoNext e) calm (name, last, refused) =
+      let one = next-given name last.named in
       absurd (not-both _ one.0 e one.1.read refused.read)
   by-error NoRoom calm h = refl
 

@@ -9,8 +9,8 @@ use Rattle.ih_inputs.specs.Errors.{error_of_file}
 use Rattle.ih_inputs.specs.declared.reading.TheConstants.{MAX_JOURNAL}
 use Rattle.ih_inputs.specs.declared.error.InputError.{InputError}
 use Rattle.ih_inputs.specs.declared.error.InputError.TheVariants.{ReadFault, TooLong, OutOfMemory}
-use Rattle.ih_inputs.specs.declared.error.InputRole.TheVariants.{Journal, Older, Solution}
-use Rattle.ih_inputs.specs.Reading.{InputFiles, IsJournalNext, IsLongerThan, IsNext, IsNoPlan, IsOlderNext, IsUnread}
+use Rattle.ih_inputs.specs.declared.error.InputRole.TheVariants.{Instance, Journal, Next, Older, Solution}
+use Rattle.ih_inputs.specs.Reading.{InputFiles, IsJournalNext, IsLastNext, IsLongerThan, IsNext, IsNoInstance, IsNoPlan, IsOlderNext, IsUnread}
 
 module _ (files : Option Names) (r : InputFiles) (I : Draft) (name : List ℕ) where
   pub plan_unread : IsNext files r I name → (e : InputError) → IsNoPlan Solution files name I e → IsUnread files r e
@@ -24,6 +24,19 @@ module _ (files : Option Names) (r : InputFiles) (I : Draft) (name : List ℕ) w
   older_unread next (TooLong of) (is, long) = subst (λ role. IsUnread files r (TooLong role)) (sym is) (I, name, next, long)
   older_unread next OutOfMemory h = tt
   older_unread next error h = subst (IsUnread files r) (sym h.1) (I, name, next, h.2)
+
+module _ (files : Option Names) (r : InputFiles) where
+  pub instance_unread : (e : InputError) → IsNoInstance Instance files r.instance e → IsUnread files r e
+  instance_unread (ReadFault of) is = subst (λ role. IsUnread files r (ReadFault role)) (sym is) tt
+  instance_unread (TooLong of) (is, long) = subst (λ role. IsUnread files r (TooLong role)) (sym is) long
+  instance_unread OutOfMemory h = tt
+  instance_unread error h = subst (IsUnread files r) (sym h.1) h.2
+
+  pub next_unread : (name : List ℕ) → IsLastNext files r name → (e : InputError) → IsNoInstance Next files name e → IsUnread files r e
+  next_unread name last (ReadFault of) is = subst (λ role. IsUnread files r (ReadFault role)) (sym is) (name, last)
+  next_unread name last (TooLong of) (is, long) = subst (λ role. IsUnread files r (TooLong role)) (sym is) (name, last, long)
+  next_unread name last OutOfMemory h = tt
+  next_unread name last error h = subst (IsUnread files r) (sym h.1) (name, last, h.2)
 
 -- why a journal gives no bytes
 pub journal_unread : (files : Option Names) (r : InputFiles) (name : List ℕ) → IsJournalNext files r name → (e : ReadError)

@@ -1,4 +1,5 @@
--- The files that a call reads: an instance, and where files are named for them a timetable, an older one and a journal.
+-- The files that a call reads: an instance, and where files are named for them a timetable, an older one, a journal and the
+-- instance that comes next.
 use Rattle.std.specs.Prelude.{◌≡◌, ℕ, ◌≤◌, ◌<◌, Bool, false, true, List, [], length, option_map, unwrap_or, Option, Some, None, Ok, Err, IfSome}
 use Rattle.ih_tables.specs.declared.drafts.Draft.{Draft}
 use Rattle.ih_tables.specs.declared.refusals.Refusal.{Refusal}
@@ -6,14 +7,15 @@ use Rattle.ih_plan.specs.Timetable.{IsPlanOf, Timetable, empty}
 use Rattle.ih_instance.specs.Instance.{instance}
 use Rattle.ih_solution.specs.Reading.{plan_in}
 use Rattle.ih_shelf.specs.Outside.{Names, bytes_at}
-use Rattle.ih_inputs.specs.Errors.{refused_as}
+use Rattle.ih_shelf.specs.declared.outside.Shelf.{Ghosts as ShelfGhosts}
+use Rattle.ih_inputs.specs.Errors.{HasFailed, instance_refused_as, refused_as}
 use Rattle.ih_inputs.specs.declared.reading.InputNames.{InputNames}
 use Rattle.ih_inputs.specs.declared.reading.Inputs.{Inputs}
 use Rattle.ih_inputs.specs.declared.reading.TheConstants.{MAX_FILE, MAX_JOURNAL}
 use Rattle.ih_inputs.specs.declared.error.InputError.{InputError}
-use Rattle.ih_inputs.specs.declared.error.InputError.TheVariants.{ReadFault, InstanceRefused, OlderRefused, SolutionRefused, OutOfMemory, TooLong}
+use Rattle.ih_inputs.specs.declared.error.InputError.TheVariants.{ReadFault, InstanceRefused, NextRefused, OlderRefused, SolutionRefused, OutOfMemory, TooLong}
 use Rattle.ih_inputs.specs.declared.error.InputRole.{InputRole}
-use Rattle.ih_inputs.specs.declared.error.InputRole.TheVariants.{Instance, Journal, Older, Solution}
+use Rattle.ih_inputs.specs.declared.error.InputRole.TheVariants.{Instance, Journal, Next, Older, Solution}
 
 -- the names of these files
 pub record InputFiles : Type 0 where
@@ -21,6 +23,7 @@ pub record InputFiles : Type 0 where
   pub solution : Option (List ℕ)
   pub older : Option (List ℕ)
   pub journal : Option (List ℕ)
+  pub next : Option (List ℕ)
   -- what is said of a refused file begins with its name
   pub are_said : Bool
 
@@ -30,13 +33,14 @@ files_of n = record {
   solution = option_map (λ t. t.now) n.solution;
   older = option_map (λ t. t.now) n.older;
   journal = option_map (λ t. t.now) n.journal;
+  next = option_map (λ t. t.now) n.next;
   are_said = n.are_said;
 }
 
 -- an instance, and a timetable where a file is named for it
 abbrev pub two_files : List ℕ → Option (List ℕ) → InputFiles
 two_files instance solution =
-    record { instance = instance; solution = solution; older = None; journal = None; are_said = false }
+    record { instance = instance; solution = solution; older = None; journal = None; next = None; are_said = false }
 
 -- the same, and what is said of a refused one begins with its name
 abbrev pub said_files : List ℕ → Option (List ℕ) → InputFiles
@@ -48,6 +52,7 @@ name_in r Instance = r.instance
 name_in r Solution = unwrap_or r.solution []
 name_in r Older = unwrap_or r.older []
 name_in r Journal = unwrap_or r.journal []
+name_in r Next = unwrap_or r.next []
 
 -- what such files give
 pub record Given : Type 0 where
@@ -55,6 +60,7 @@ pub record Given : Type 0 where
   pub plan : Timetable
   pub older : Option Timetable
   pub journal : Option (List ℕ)
+  pub next : Option Draft
 
 abbrev pub given_of : Inputs → Given
 given_of i = record {
@@ -62,6 +68,7 @@ given_of i = record {
   plan = i.plan;
   older = i.older;
   journal = option_map (λ v. v.items) i.journal;
+  next = option_map (λ i. i.value.draft) i.next;
 }
 
 -- its timetables are of its instance
@@ -129,11 +136,24 @@ HasJournal files None journal = journal ≡ None
 HasJournal files (Some name) None = ⊥
 HasJournal files (Some name) (Some bytes) = IfSome files (HasBytes name bytes)
 
+-- the instance that comes next, where one is named
+abbrev pub HasNext : Option Names → Option (List ℕ) → Option Draft → Type 0
+HasNext files None next = next ≡ None
+HasNext files (Some name) None = ⊥
+HasNext files (Some name) (Some N) = IfSome files (HasInstance name N)
+
+-- what the files give that are read before the instance that comes next
+pub record HasGivenBefore (files : Option Names) (r : InputFiles) (g : Given) : Type 0 where
+  pub inputs : HasInputs files r g.instance g.plan
+  pub older : HasOlder files r.older g.instance g.older
+  pub journal : HasJournal files r.journal g.journal
+
 -- what all files of a call give
 pub record HasGiven (files : Option Names) (r : InputFiles) (g : Given) : Type 0 where
   pub inputs : HasInputs files r g.instance g.plan
   pub older : HasOlder files r.older g.instance g.older
   pub journal : HasJournal files r.journal g.journal
+  pub next : HasNext files r.next g.next
 
 -- ---- why the files can't be had
 
@@ -157,6 +177,20 @@ pub record IsJournalNext (files : Option Names) (r : InputFiles) (name : List �
   pub older_is : HasOlder files r.older instance older
   pub named : r.journal ≡ Some name
 
+-- all others are accepted, and an instance that comes next is named
+pub record IsLastNext (files : Option Names) (r : InputFiles) (name : List ℕ) : Type 0 where
+  pub given : Given
+  pub before : HasGivenBefore files r given
+  pub named : r.next ≡ Some name
+
+-- Why an instance's file gives none: first its length counts, then its form.
+abbrev pub IsNoInstance : InputRole → Option Names → List ℕ → InputError → Type 0
+IsNoInstance role files name (ReadFault of) = of ≡ role
+IsNoInstance role files name (TooLong of) = (of ≡ role) × IfSome files (IsLong name)
+IsNoInstance role files name OutOfMemory = Unit {0}
+IsNoInstance role files name error =
+    (e : Refusal) × (error ≡ instance_refused_as role e) × IfSome files (IsInstanceRefused name e)
+
 -- Why a solution's file gives no timetable of the instance: first its length counts, then its form.
 abbrev pub IsNoPlan : InputRole → Option Names → List ℕ → Draft → InputError → Type 0
 IsNoPlan role files name I (ReadFault of) = of ≡ role
@@ -165,8 +199,8 @@ IsNoPlan role files name I OutOfMemory = Unit {0}
 IsNoPlan role files name I error =
     (e : Refusal) × (error ≡ refused_as role e) × IfSome files (IsSolutionRefused name I e)
 
--- Why the files can't be had. The instance comes first, then the timetable, the older one and the journal; of each file
--- first its length, then its form.
+-- Why the files can't be had. The instance comes first, then the timetable, the older one, the journal and the instance that
+-- comes next; of each file first its length, then its form.
 abbrev pub IsUnread : Option Names → InputFiles → InputError → Type 0
 IsUnread files r (ReadFault Instance) = Unit {0}
 IsUnread files r (TooLong Instance) = IfSome files (IsLong r.instance)
@@ -184,4 +218,12 @@ IsUnread files r (OlderRefused e) =
 IsUnread files r (ReadFault Journal) = (name : List ℕ) × IsJournalNext files r name
 IsUnread files r (TooLong Journal) =
     (name : List ℕ) × IsJournalNext files r name × IfSome files (IsLongerThan MAX_JOURNAL name)
+IsUnread files r (ReadFault Next) = (name : List ℕ) × IsLastNext files r name
+IsUnread files r (TooLong Next) = (name : List ℕ) × IsLastNext files r name × IfSome files (IsLong name)
+IsUnread files r (NextRefused e) = (name : List ℕ) × IsLastNext files r name × IfSome files (IsInstanceRefused name e)
 IsUnread files r OutOfMemory = Unit {0}
+
+-- a fault is answered only where a read of the file with that role failed
+abbrev pub HasReadCause : {X : Type 0} → ShelfGhosts X → InputFiles → X → X → InputError → Type 0
+HasReadCause shelf r old new (ReadFault role) = HasFailed shelf (name_in r role) old new
+HasReadCause shelf r old new error = Unit {0}

@@ -12,6 +12,8 @@ pub enum InputRole {
     /// A second solution of the instance, with which the first is compared.
     Older,
     Journal,
+    /// A second instance, to which the timetable of the first is carried.
+    Next,
 }
 
 impl fmt::Display for InputRole {
@@ -21,6 +23,7 @@ impl fmt::Display for InputRole {
             InputRole::Solution => "solution",
             InputRole::Older => "older solution",
             InputRole::Journal => "journal",
+            InputRole::Next => "new instance",
         })
     }
 }
@@ -41,6 +44,9 @@ pub enum InputError {
     /// The older timetable's first refusal.
     #[error("older solution refused: {0}")]
     OlderRefused(Refusal),
+    /// The first refusal of the instance that comes next.
+    #[error("new instance refused: {0}")]
+    NextRefused(Refusal),
     #[error("out of memory")]
     OutOfMemory,
 }

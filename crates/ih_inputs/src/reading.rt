@@ -1,10 +1,12 @@
-//! The files that a call reads, by their names: an instance, a timetable for it, an older one and a journal.
+//! The files that a call reads, by their names: an instance, a timetable for it, an older one, a journal, and the instance
+//! that comes next.
 
 ghost use Rattle.std.specs.Prelude.{◌≡◌, IfOk, IfErr, IfSome, option_map};
 ghost use Rattle.ih_plan.specs.Timetable.{IsPlanOf};
-ghost use Rattle.ih_inputs.specs.Errors.{error_of_file, refused_as, HasOnlyRead, HasReadCause, IsOf};
-ghost use Rattle.ih_inputs.specs.Reading.{name_in, files_of, given_of, ArePlans, HasGiven, HasInputs, HasInstance};
-ghost use Rattle.ih_inputs.specs.Reading.{HasJournal, HasOlder, HasSolution, IsNoPlan, IsUnread};
+ghost use Rattle.ih_inputs.specs.Errors.{HasNamedCause, HasOnlyRead, error_of_file, instance_refused_as, refused_as};
+ghost use Rattle.ih_inputs.specs.Reading.{name_in, files_of, given_of, ArePlans, HasGiven, HasGivenBefore, HasInputs};
+ghost use Rattle.ih_inputs.specs.Reading.{HasInstance, HasJournal, HasNext, HasOlder, HasReadCause, HasSolution};
+ghost use Rattle.ih_inputs.specs.Reading.{IsNoInstance, IsNoPlan, IsUnread};
 
 use crate::error::{InputError, InputRole};
 use ih_instance::{InstanceError, read_instance};
@@ -28,6 +30,8 @@ pub struct InputNames<'a> {
     /// A second solution of the instance.
     pub older: Option<&'a str>,
     pub journal: Option<&'a str>,
+    /// A second instance, which comes next.
+    pub next: Option<&'a str>,
     /// Whether what is said of a refused file begins with its name.
     pub are_said: bool,
 }
@@ -42,6 +46,7 @@ impl<'a> InputNames<'a> {
             InputRole::Solution => self.solution.unwrap_or(""),
             InputRole::Older => self.older.unwrap_or(""),
             InputRole::Journal => self.journal.unwrap_or(""),
+            InputRole::Next => self.next.unwrap_or(""),
         }
     }
 }
@@ -55,6 +60,7 @@ pub struct Inputs {
     pub older: Option<Plan>,
     /// The bytes of the journal.
     pub journal: Option<Vec<u8>>,
+    pub next: Option<Box<Instance>>,
 }
 
 // Why a file gave no bytes.
@@ -74,7 +80,44 @@ fn boxed(alloc: Global, inst: Instance) -> Result<Box<Instance>, AllocError>
     Ok(Box::new(alloc, inst)?)
 }
 
+// An instance's refusal, by what its file is to the call.
+fn instance_refused_as(role: InputRole, refusal: Refusal) -> InputError
+    ensures { result ≡ instance_refused_as role refusal }
+{
+    match role {
+        InputRole::Next => InputError::NextRefused(refusal),
+        _ => InputError::InstanceRefused(refusal),
+    }
+}
+
+// The instance of a file.
 fn read_instance_file<R: Files, S: Shelf>(
+    rt: &R,
+    alloc: Global,
+    role: InputRole,
+    name: &str,
+    shelf: &mut S,
+) -> Result<Box<Instance>, InputError>
+    ensures read { IfOk result (λ i. IfSome (S.names shelf.old) (HasInstance name.now i.value.draft)) }
+    ensures unread { IfErr result (IsNoInstance role (S.names shelf.old) name.now) }
+    ensures cause { IfErr result (HasNamedCause S.Shelf name.now shelf.old shelf.new) }
+    ensures only { HasOnlyRead S.Shelf shelf.old shelf.new }
+{
+    match shelf.read(rt, alloc, name, MAX_FILE) {
+        Ok(bytes) => match read_instance(alloc, bytes.as_slice()) {
+            Ok(inst) => match boxed(alloc, inst) {
+                Ok(inst) => Ok(inst),
+                Err(_) => Err(InputError::OutOfMemory),
+            },
+            Err(InstanceError::Refused(refusal)) => Err(instance_refused_as(role, refusal)),
+            Err(InstanceError::OutOfMemory) => Err(InputError::OutOfMemory),
+        },
+        Err(error) => Err(error_of_file(role, error)),
+    }
+}
+
+// The first instance.
+fn read_first_instance<R: Files, S: Shelf>(
     rt: &R,
     alloc: Global,
     names: &InputNames<'_>,
@@ -82,21 +125,10 @@ fn read_instance_file<R: Files, S: Shelf>(
 ) -> Result<Box<Instance>, InputError>
     ensures read { IfOk result (λ i. IfSome (S.names shelf.old) (HasInstance names.now.instance.now i.value.draft)) }
     ensures unread { IfErr result (IsUnread (S.names shelf.old) (files_of names.now)) }
-    ensures role { IfErr result (IsOf InputRole.Instance) }
-    ensures cause { IfErr result (HasReadCause S.Shelf shelf.old shelf.new) }
+    ensures cause { IfErr result (HasReadCause S.Shelf (files_of names.now) shelf.old shelf.new) }
     ensures only { HasOnlyRead S.Shelf shelf.old shelf.new }
 {
-    match shelf.read(rt, alloc, names.instance, MAX_FILE) {
-        Ok(bytes) => match read_instance(alloc, bytes.as_slice()) {
-            Ok(inst) => match boxed(alloc, inst) {
-                Ok(inst) => Ok(inst),
-                Err(_) => Err(InputError::OutOfMemory),
-            },
-            Err(InstanceError::Refused(refusal)) => Err(InputError::InstanceRefused(refusal)),
-            Err(InstanceError::OutOfMemory) => Err(InputError::OutOfMemory),
-        },
-        Err(error) => Err(error_of_file(InputRole::Instance, error)),
-    }
+    read_instance_file(rt, alloc, InputRole::Instance, names.instance, shelf)
 }
 
 // A timetable's refusal, by what its file is to the call.
@@ -121,8 +153,7 @@ fn read_plan<R: Files, S: Shelf>(
     ensures plan { IfOk result (IsPlanOf inst.now.draft) }
     ensures read { IfOk result (λ p. IfSome (S.names shelf.old) (HasSolution name.now inst.now.draft p)) }
     ensures unread { IfErr result (IsNoPlan role (S.names shelf.old) name.now inst.now.draft) }
-    ensures role { IfErr result (IsOf role) }
-    ensures cause { IfErr result (HasReadCause S.Shelf shelf.old shelf.new) }
+    ensures cause { IfErr result (HasNamedCause S.Shelf name.now shelf.old shelf.new) }
     ensures only { HasOnlyRead S.Shelf shelf.old shelf.new }
 {
     match shelf.read(rt, alloc, name, MAX_FILE) {
@@ -147,8 +178,7 @@ fn read_first_plan<R: Files, S: Shelf>(
     ensures plan { IfOk result (IsPlanOf inst.now.draft) }
     ensures read { IfOk result (HasInputs (S.names shelf.old) (files_of names.now) inst.now.draft) }
     ensures unread { IfErr result (IsUnread (S.names shelf.old) (files_of names.now)) }
-    ensures role { IfErr result (IsOf InputRole.Solution) }
-    ensures cause { IfErr result (HasReadCause S.Shelf shelf.old shelf.new) }
+    ensures cause { IfErr result (HasReadCause S.Shelf (files_of names.now) shelf.old shelf.new) }
     ensures only { HasOnlyRead S.Shelf shelf.old shelf.new }
 {
     match names.solution {
@@ -173,8 +203,7 @@ fn read_older<R: Files, S: Shelf>(
     ensures plan { IfOk result (λ o. IfSome o (IsPlanOf inst.now.draft)) }
     ensures read { IfOk result (HasOlder (S.names shelf.old) (files_of names.now).older inst.now.draft) }
     ensures unread { IfErr result (IsUnread (S.names shelf.old) (files_of names.now)) }
-    ensures role { IfErr result (IsOf InputRole.Older) }
-    ensures cause { IfErr result (HasReadCause S.Shelf shelf.old shelf.new) }
+    ensures cause { IfErr result (HasReadCause S.Shelf (files_of names.now) shelf.old shelf.new) }
     ensures only { HasOnlyRead S.Shelf shelf.old shelf.new }
 {
     match names.older {
@@ -201,8 +230,7 @@ fn read_journal<R: Files, S: Shelf>(
     ensures read { IfOk result
         (λ j. HasJournal (S.names shelf.old) (files_of names.now).journal (option_map (λ v. v.items) j)) }
     ensures unread { IfErr result (IsUnread (S.names shelf.old) (files_of names.now)) }
-    ensures role { IfErr result (IsOf InputRole.Journal) }
-    ensures cause { IfErr result (HasReadCause S.Shelf shelf.old shelf.new) }
+    ensures cause { IfErr result (HasReadCause S.Shelf (files_of names.now) shelf.old shelf.new) }
     ensures only { HasOnlyRead S.Shelf shelf.old shelf.new }
 {
     match names.journal {
@@ -214,9 +242,33 @@ fn read_journal<R: Files, S: Shelf>(
     }
 }
 
+// The instance that comes next, where one is named. The contract speaks of what was read before too.
+fn read_next<R: Files, S: Shelf>(
+    rt: &R,
+    alloc: Global,
+    names: &InputNames<'_>,
+    _before: &Inputs,
+    shelf: &mut S,
+) -> Result<Option<Box<Instance>>, InputError>
+    requires { HasGivenBefore (S.names shelf.old) (files_of names.now) (given_of _before.now) }
+    ensures read { IfOk result
+        (λ o. HasNext (S.names shelf.old) (files_of names.now).next (option_map (λ i. i.value.draft) o)) }
+    ensures unread { IfErr result (IsUnread (S.names shelf.old) (files_of names.now)) }
+    ensures cause { IfErr result (HasReadCause S.Shelf (files_of names.now) shelf.old shelf.new) }
+    ensures only { HasOnlyRead S.Shelf shelf.old shelf.new }
+{
+    match names.next {
+        Some(name) => match read_instance_file(rt, alloc, InputRole::Next, name, shelf) {
+            Ok(inst) => Ok(Some(inst)),
+            Err(error) => Err(error),
+        },
+        None => Ok(None),
+    }
+}
+
 /// Reads the instance; then the timetable of its file, or takes the empty one where no file is named for it; then the
-/// older timetable and the journal, where files are named for them. Where one of them can't be had, the error says why,
-/// and nothing behind it is read.
+/// older timetable, the journal and the instance that comes next, where files are named for them. Where one of them can't
+/// be had, the error says why, and nothing behind it is read. A fault is that of a read of the file that the error names.
 pub fn read_inputs<R: Files, S: Shelf>(
     rt: &R,
     alloc: Global,
@@ -226,17 +278,20 @@ pub fn read_inputs<R: Files, S: Shelf>(
     ensures plans { IfOk result ArePlans }
     ensures read { IfOk result (λ i. HasGiven (S.names shelf.old) (files_of names.now) (given_of i)) }
     ensures unread { IfErr result (IsUnread (S.names shelf.old) (files_of names.now)) }
-    ensures cause { IfErr result (HasReadCause S.Shelf shelf.old shelf.new) }
+    ensures cause { IfErr result (HasReadCause S.Shelf (files_of names.now) shelf.old shelf.new) }
     ensures only { HasOnlyRead S.Shelf shelf.old shelf.new }
 {
-    let inst = read_instance_file(rt, alloc, names, shelf)?;
+    let inst = read_first_instance(rt, alloc, names, shelf)?;
     let plan = read_first_plan(rt, alloc, names, &*inst, shelf)?;
     let older = read_older(rt, alloc, names, &*inst, &plan, shelf)?;
     let journal = read_journal(rt, alloc, names, &*inst, &plan, &older, shelf)?;
-    Ok(Inputs {
+    let mut inputs = Inputs {
         inst,
         plan,
         older,
         journal,
-    })
+        next: None,
+    };
+    inputs.next = read_next(rt, alloc, names, &inputs, shelf)?;
+    Ok(inputs)
 }

@@ -1,6 +1,7 @@
 //! The tests, by what they call, and the program that they try.
 
 mod bounds;
+mod carries;
 mod checks;
 mod improving;
 mod program;

@@ -21,7 +21,7 @@ use Rattle.ih_frame.specs.Outcomes.{OutcomeState}
 use Rattle.ih_frame.proofs.Complete.{accepted, command-answered, no-fault, reached, steps-answered}
 use Rattle.ih_frame.proofs.StepByStep.{one-within}
 use Rattle.ih_planning.specs.Calls.Bound.{judged_status}
-use Rattle.ih_planning.specs.Calls.{Call, IsAnswered, bound, check, comes_to, improve, inputs_of, view}
+use Rattle.ih_planning.specs.Calls.{Call, IsAnswered, bound, carry, check, comes_to, improve, inputs_of, view}
 use Rattle.ih_planning.specs.Ends.{CallEnds, HasFewPuts, HasFiles, IsComplete, IsUntouched, Leaves, NoCallEnds}
 use Rattle.ih_planning.specs.Calls.Improve.{ImproveCall, improve_inputs}
 use Rattle.ih_planning.specs.Pacing.{most_rounds}
@@ -57,6 +57,7 @@ answers (improve c) = record { outcomes = λ g o none. absurd none; memory = inr
 answers (view v) = record { outcomes = λ g o is. inl (ap (λ (x : OutcomeState). x.status) is.page); memory = inr refl }
 answers (bound b) = record { outcomes = λ g o is. judged _ o.status (ap (λ (x : OutcomeState). x.status) is.said); memory = inr (inr refl) }
 answers (check c) = record { outcomes = λ g o is. judged _ o.status (ap (λ (x : OutcomeState). x.status) is); memory = inr (inr refl) }
+answers (carry c) = record { outcomes = λ g o is. inl (ap (λ (x : OutcomeState). x.status) is.written); memory = inr refl }
 
 -- each end of a call that no fault ended, and whose files are accepted, is an answer
 answered : (call : Call) (files : Names) (new : Option Names) → HasFiles call files → (status : Status) (text : List ℕ) → HasNoFault status

@@ -10,12 +10,14 @@ ghost use Rattle.ih_planning.specs.Calls.{program_app};
 ghost use Rattle.ih_planning.specs.Ends.{CallEnds, HasFewPuts};
 
 pub mod bound;
+pub mod carry;
 pub mod check;
 mod common;
 pub mod improve_words;
 pub mod view;
 
 use crate::command::bound::{BOUND, Bound, read_bound};
+use crate::command::carry::{CARRY, Carry, read_carry};
 use crate::command::check::{CHECK, Check, read_check};
 use crate::command::improve_words::{IMPROVE, Improve, read_improve};
 use crate::command::view::{VIEW, View, read_view};
@@ -41,9 +43,11 @@ pub enum Command<'a> {
     Bound(Bound<'a>),
     /// Says which hard rules a solution breaks and what it costs.
     Check(Check<'a>),
+    /// Carries a plan over to a ward that has changed.
+    Carry(Carry<'a>),
 }
 
-const COMMANDS: [Description<'static, 'static>; 4] = [IMPROVE, VIEW, BOUND, CHECK];
+const COMMANDS: [Description<'static, 'static>; 5] = [IMPROVE, VIEW, BOUND, CHECK, CARRY];
 
 // All commands, for the help on the program.
 fn program_description<'a>(alloc: Global) -> Result<clap::Command<'a>, AllocError>
@@ -82,6 +86,7 @@ fn read_named<'a>(alloc: Global, name: &str, words: &'a [String]) -> Result<Comm
         "view" => Ok(Command::View(read_view(alloc, words)?)),
         "bound" => Ok(Command::Bound(read_bound(alloc, words)?)),
         "check" => Ok(Command::Check(read_check(alloc, words)?)),
+        "carry" => Ok(Command::Carry(read_carry(alloc, words)?)),
         _ => Err(explained_commands(alloc, words)),
     }
 }
@@ -133,5 +138,6 @@ pub(crate) fn perform<R: Files + Print + Threads + Wait + Sync, S: Shelf, O: Sin
         Command::View(call) => ih_frame::perform(rt, alloc, call, shelf, out),
         Command::Bound(call) => ih_frame::perform(rt, alloc, call, shelf, out),
         Command::Check(call) => ih_frame::perform(rt, alloc, call, shelf, out),
+        Command::Carry(call) => ih_frame::perform(rt, alloc, call, shelf, out),
     }
 }

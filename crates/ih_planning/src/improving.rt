@@ -113,6 +113,7 @@ fn names_of<'a>(call: &Improve<'a>) -> InputNames<'a>
         solution: call.start.file,
         older: None,
         journal: None,
+        next: None,
         are_said: true,
     }
 }

@@ -1,5 +1,5 @@
 -- What calls to the outside do: to named files, to text that is put out, and to counts of faults.
-use Rattle.std.specs.Prelude.{◌≡◌, ◌≢◌, ℕ, ◌+◌, ◌-◌, ◌^◌, ◌≤◌, ◌⊎◌, min, List, [], ◌++◌, take, Option, Some, None, unwrap_or}
+use Rattle.std.specs.Prelude.{◌≡◌, ◌≢◌, ℕ, ◌+◌, ◌-◌, ◌^◌, ◌≤◌, ◌⊎◌, min, Bool, is_some, List, [], ◌++◌, take, Option, Some, None, unwrap_or}
 
 -- the bytes of each name, where the name is there
 abbrev pub Names : Type 0
@@ -8,6 +8,10 @@ Names = List ℕ → Option (List ℕ)
 -- what a read of a name gives: a name that isn't there has no bytes
 abbrev pub bytes_at : Names → List ℕ → List ℕ
 bytes_at names name = unwrap_or (names name) []
+
+-- the name is there
+abbrev pub is_there : Names → List ℕ → Bool
+is_there names name = is_some (names name)
 
 -- a count after one more, which stands still at the last number of 64 bits
 abbrev pub raised : ℕ → ℕ

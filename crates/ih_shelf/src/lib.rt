@@ -2,6 +2,7 @@
 #![tactic(auto)]
 
 mod faults;
+mod finding;
 mod gate;
 mod hold;
 mod memory;
@@ -13,6 +14,7 @@ mod sink;
 mod stored;
 mod transfer;
 
+pub use finding::Finds;
 pub use gate::OpenGate;
 pub use hold::HoldGate;
 pub use memory::MemShelf;

@@ -105,6 +105,8 @@ impl Shelf for MemShelf {
 
     ghost write_faults = { λ s. s.writes.count };
 
+    ghost read_failed = { λ s name t. IsTrue (read_fails s name) × (t ≡ after_read s name) };
+
     /// A read of a name that isn't there is a fault.
     fn read<R: Files>(
         &mut self,

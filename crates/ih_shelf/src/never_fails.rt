@@ -15,6 +15,8 @@ impl Shelf for NeverFails {
 
     ghost write_faults = { λ s. 0 };
 
+    ghost read_failed = { λ s name t. ⊥ };
+
     /// A name that isn't there has no bytes.
     fn read<R: Files>(
         &mut self,

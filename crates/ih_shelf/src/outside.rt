@@ -39,6 +39,10 @@ pub trait Shelf {
 
     ghost write_faults: { Self → ℕ };
 
+    /// A read of a name that failed may lead from one state to another. What that means is each
+    /// shelf's own, so who is handed any shelf knows it of a name by a read of that name alone.
+    ghost read_failed: { Self → List ℕ → Self → Type 0 };
+
     /// The bytes of a name, of which there may be at most `limit`. A name that isn't there has no
     /// bytes. Where the answer is neither `Fault` nor `OutOfMemory`, it is `TooLong` exactly if
     /// there are more.
@@ -56,6 +60,7 @@ pub trait Shelf {
             (λ held. limit < length (bytes_at held name.now)) }
         ensures fault { result ≡ Err ReadError.Fault →
             Rose (read_faults self.old) (read_faults self.new) }
+        ensures failed { result ≡ Err ReadError.Fault → read_failed self.old name.now self.new }
         ensures count { read_faults self.old ≤ read_faults self.new }
         ensures other_count { write_faults self.new ≡ write_faults self.old }
         ensures kept { names self.new ≡ names self.old };

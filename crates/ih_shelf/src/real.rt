@@ -60,6 +60,8 @@ impl Shelf for FileShelf {
 
     ghost write_faults = { λ s. s.writes };
 
+    ghost read_failed = { λ s name t. t ≡ record s { reads = raised s.reads } };
+
     fn read<R: Files>(
         &mut self,
         rt: &R,

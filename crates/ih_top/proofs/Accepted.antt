@@ -36,7 +36,8 @@ use Rattle.ih_top.proofs.FirstLines.{first-apart}
 pub accepted-two : (files : Names) (name : List ℕ) (solution : Option (List ℕ)) (I : Draft) (P : Timetable) → HasInputs (Some files) (two_files name solution) I P
     → (status : Status) (text : List ℕ) → HasNoFault status → EndsUnread (Some files) (two_files name solution) status text → status ≡ OutOfMemory
 accepted-two files name solution I P has =
-    accepted files (two_files name solution) (record { instance = I; plan = P; older = None; journal = None }) (record { inputs = has; older = refl; journal = refl })
+    accepted files (two_files name solution) (record { instance = I; plan = P; older = None; journal = None; next = None })
+    (record { inputs = has; older = refl; journal = refl; next = refl })
 
 -- ---- journals that are accepted
 
@@ -95,8 +96,8 @@ module _ (files : Names) (r : ReplayCall) (x : JournalRead) (has : HasRead (Some
   -- with no fault, only lack of memory stops the reading
   pub journal-accepted : (status : Status) (text : List ℕ) → HasNoFault status → EndsUnread (Some files) (replay_inputs r) status text → status ≡ OutOfMemory
   journal-accepted =
-      accepted files (replay_inputs r) (record { instance = x.instance; plan = x.plan; older = None; journal = Some x.bytes })
-      (record { inputs = has.inputs; older = refl; journal = has.journal })
+      accepted files (replay_inputs r) (record { instance = x.instance; plan = x.plan; older = None; journal = Some x.bytes; next = None })
+      (record { inputs = has.inputs; older = refl; journal = has.journal; next = refl })
 
   -- where no history is taken from it and it can be refused in one way, it is refused so
   module _ (left : Names) (taken : JournalRead → Base → List Entry → Type 0) (refused : JournalRead → JournalRefusal → Type 0)

@@ -45,8 +45,8 @@ use Rattle.ih_answers.specs.declared.status.Role.TheVariants.{Instance, Solution
 use Rattle.ih_answers.specs.declared.status.Status.{Status}
 use Rattle.ih_answers.specs.declared.status.Status.TheVariants.{Done, InstanceRefused, StartRefused, NoneFound, OutOfMemory, TooLong}
 use Rattle.ih_inputs.specs.declared.error.InputError.{InputError}
-use Rattle.ih_inputs.specs.declared.error.InputError.TheVariants.{ReadFault as Unreadable, TooLong as Long, InstanceRefused as NoInstance, OlderRefused as NoOlder, SolutionRefused as NoSolution, OutOfMemory as NoRoom}
-use Rattle.ih_inputs.specs.declared.error.InputRole.TheVariants.{Instance as InstanceInput, Journal as JournalInput, Older as OlderInput, Solution as SolutionInput}
+use Rattle.ih_inputs.specs.declared.error.InputError.TheVariants.{ReadFault as Unreadable, TooLong as Long, InstanceRefused as NoInstance, NextRefused as NoNext, OlderRefused as NoOlder, SolutionRefused as NoSolution, OutOfMemory as NoRoom}
+use Rattle.ih_inputs.specs.declared.error.InputRole.TheVariants.{Instance as InstanceInput, Journal as JournalInput, Next as NextInput, Older as OlderInput, Solution as SolutionInput}
 use Rattle.ih_frame.specs.Ends.{HasNoFault}
 use Rattle.ih_top.specs.Commands.{solve_inputs}
 use Rattle.ih_answers.specs.Inputs.{EndsUnread, unread_said, unread_status}
@@ -239,7 +239,9 @@ module _ (files : Names) (file : List ℕ) (start : Option (List ℕ)) where
   -- no other file is named
   by-error (Long OlderInput) calm room (I, name, next, long) = absurd (unnamed name next.named)
   by-error (Long JournalInput) calm room (name, next, long) = absurd (unnamed name next.named)
+  by-error (Long NextInput) calm room (name, last, long) = absurd (unnamed name last.named)
   by-error (NoOlder e) calm room (I, name, next, refused) = absurd (unnamed name next.named)
+  by-error (NoNext e) calm room (name, last, refused) = absurd (unnamed name last.named)
 
   refused-so : (status : Status) (text : List ℕ) → HasNoFault status → status ≢ OutOfMemory → EndsUnread (Some files) r status text
       → ◌≡◌ {A = Status × List ℕ} (status, text) (verdict files r)

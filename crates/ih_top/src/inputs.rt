@@ -14,6 +14,7 @@ pub fn two_names<'a>(instance: &'a str, solution: Option<&'a str>) -> InputNames
         solution,
         older: None,
         journal: None,
+        next: None,
         are_said: false,
     }
 }

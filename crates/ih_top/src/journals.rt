@@ -119,6 +119,7 @@ impl<'c, 'w> Command for Taking<'c, 'w> {
             plan,
             older,
             journal,
+            next,
         } = inputs;
         let bytes = bytes_of(alloc, journal);
         let read = Inputs {
@@ -126,6 +127,7 @@ impl<'c, 'w> Command for Taking<'c, 'w> {
             plan,
             older,
             journal: None,
+            next,
         };
         let start = &self.call.start;
         let found = found_in(rt, alloc, self.journal_use, start, read, bytes.as_slice())?;

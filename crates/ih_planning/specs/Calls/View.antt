@@ -53,6 +53,7 @@ view_inputs v = record {
   solution = Some v.solution;
   older = v.since;
   journal = None;
+  next = None;
   are_said = true;
 }
 

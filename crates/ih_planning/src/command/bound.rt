@@ -131,6 +131,7 @@ impl<'b> ih_frame::Command for Bound<'b> {
             solution: self.solution,
             older: None,
             journal: None,
+            next: None,
             are_said: true,
         }
     }

@@ -70,6 +70,7 @@ impl<'c> ih_frame::Command for Check<'c> {
             solution: Some(self.solution),
             older: None,
             journal: None,
+            next: None,
             are_said: true,
         }
     }

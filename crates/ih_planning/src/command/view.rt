@@ -194,6 +194,7 @@ impl<'v> ih_frame::Command for View<'v> {
             solution: Some(self.solution),
             older: self.since,
             journal: None,
+            next: None,
             are_said: true,
         }
     }

@@ -23,3 +23,9 @@ returns-in-Bound-clause-once g c = rw c.in-Bound.is c.perform-in-Bound.ensures.o
 
 pub returns-in-Check-clause-once : goal.returns-in-Check-clause-once
 returns-in-Check-clause-once g c = rw c.in-Check.is c.perform-in-Check.ensures.once
+
+pub returns-in-Carry-clause-ends : goal.returns-in-Carry-clause-ends
+returns-in-Carry-clause-ends g c = rw c.in-Carry.is c.perform-in-Carry.ensures.ends
+
+pub returns-in-Carry-clause-once : goal.returns-in-Carry-clause-once
+returns-in-Carry-clause-once g c = rw c.in-Carry.is c.perform-in-Carry.ensures.once

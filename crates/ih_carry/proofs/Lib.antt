@@ -1,0 +1,4 @@
+pub mod CarrySteps
+pub mod Known
+pub mod Lines
+pub mod Saying
