@@ -8,7 +8,7 @@ use Rattle.ih_plan.specs.declared.moves.Placement.{Placement}
 use Rattle.ih_plan.specs.Sums.{is_listed, which_below}
 use Rattle.ih_plan.specs.Timetable.{Timetable, care_of, stay_of}
 use Rattle.ih_plan.proofs.ListedBelow.{has-listed, has-which_below, which_below-has}
-use Rattle.ih_page.specs.Changes.{is_same_nurse, is_same_stay}
+use Rattle.ih_changes.specs.Changes.{is_same_nurse, is_same_stay}
 use Rattle.ih_page.specs.Laws.{ChangesAreListed}
 
 -- ---- the test of stays

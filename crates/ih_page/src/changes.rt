@@ -1,16 +1,16 @@
 //! What changed since an older timetable, as JSON values.
 
-ghost use Rattle.std.specs.Prelude.{◌≡◌, ◌<◌, IfOk, map, option_map};
+ghost use Rattle.std.specs.Prelude.{◌≡◌, ◌<◌, IfOk, map};
 ghost use Rattle.serde_json.specs.View.{view};
-ghost use Rattle.ih_tables.specs.declared.ids.NurseNo.{NurseNo};
 ghost use Rattle.ih_tables.specs.Sizes.{patient_count, room_count, shift_count};
 ghost use Rattle.ih_plan.specs.Timetable.{IsPlanOf};
-ghost use Rattle.ih_page.specs.Changes.{changes_data, has_another, is_changed, is_same_nurse, is_same_stay};
+ghost use Rattle.ih_page.specs.Changes.{changes_data};
 ghost use Rattle.ih_page.specs.Changes.{patients_data, room_data, rooms_data, shifts_data, was_data};
 
 use crate::timetables::{bill_value, nurse_value, stay_value};
-use ih_plan::{Placement, Plan};
-use ih_tables::{Instance, NurseNo, PatientNo, RoomNo, Shift};
+use ih_changes::{has_another, is_changed};
+use ih_plan::Plan;
+use ih_tables::{Instance, PatientNo, RoomNo, Shift};
 use serde_json::{Value, json};
 use std::alloc::{AllocError, Global};
 
@@ -22,27 +22,6 @@ pub struct Compared<'a> {
     pub older: &'a Plan,
     pub ghost plan_fits: { IsPlanOf inst.now.draft plan.now },
     pub ghost older_fits: { IsPlanOf inst.now.draft older.now },
-}
-
-// Whether the day, the room and the theatre are the same, or the patient is left out both times.
-fn is_same_stay(was: Option<Placement>, is: Option<Placement>) -> bool
-    ensures { result ≡ is_same_stay was is }
-{
-    match (was, is) {
-        (None, None) => true,
-        (Some(a), Some(b)) => {
-            a.day.0 == b.day.0 && (a.room.0 == b.room.0 && a.theatre.0 == b.theatre.0)
-        }
-        _ => false,
-    }
-}
-
-// Whether the patient has another day, room or theatre.
-fn is_changed(both: &Compared<'_>, patient: PatientNo) -> bool
-    requires { patient.0 < patient_count both.now.inst.now.draft }
-    ensures { result ≡ is_changed both.now.older.now both.now.plan.now patient.0 }
-{
-    !is_same_stay(both.older.stay(patient), both.plan.stay(patient))
 }
 
 // A number and what was.
@@ -60,34 +39,12 @@ fn patient_values(alloc: Global, both: &Compared<'_>) -> Result<Vec<Value>, Allo
 {
     let mut values = Vec::new(alloc);
     for p in 0..both.inst.patients() {
-        if is_changed(both, PatientNo(p)) {
+        if is_changed(both.inst, both.older, both.plan, PatientNo(p)) {
             let was = stay_value(alloc, both.older.stay(PatientNo(p)))?;
             values.push(was_value(alloc, p, was)?)?;
         }
     }
     Ok(values)
-}
-
-// Whether the nurse is the same, or there is none both times.
-fn is_same_nurse(was: Option<NurseNo>, is: Option<NurseNo>) -> bool
-    ensures { result ≡ is_same_nurse (option_map (λ (n : NurseNo). n.0) was) (option_map (λ (n : NurseNo). n.0) is) }
-{
-    match (was, is) {
-        (None, None) => true,
-        (Some(m), Some(n)) => m.0 == n.0,
-        _ => false,
-    }
-}
-
-// Whether the room has another nurse in the shift.
-fn has_another(both: &Compared<'_>, room: RoomNo, shift: Shift) -> bool
-    requires room { room.0 < room_count both.now.inst.now.draft }
-    requires shift { shift.0 < shift_count both.now.inst.now.draft }
-    ensures { result ≡ has_another both.now.older.now both.now.plan.now room.0 shift.0 }
-{
-    let was = both.older.care(room, shift);
-    let is = both.plan.care(room, shift);
-    !is_same_nurse(was, is)
 }
 
 // The shifts in which the room has another nurse, with the older one.
@@ -99,7 +56,7 @@ fn shift_values(alloc: Global, both: &Compared<'_>, room: RoomNo) -> Result<Vec<
 {
     let mut values = Vec::new(alloc);
     for k in 0..both.inst.shifts() {
-        if has_another(both, room, Shift(k)) {
+        if has_another(both.inst, both.older, both.plan, room, Shift(k)) {
             let was = nurse_value(both.inst, both.older, room, Shift(k));
             values.push(was_value(alloc, k, was)?)?;
         }

@@ -2,7 +2,8 @@ use Rattle.std.proofs.Common.{◌≡◌, map}
 use Rattle.serde_json.specs.View.{view}
 use Rattle.ih_plan.specs.Sums.{which_below}
 use Rattle.ih_plan.specs.Timetable.{stay_of}
-use Rattle.ih_page.specs.Changes.{is_changed, was_data}
+use Rattle.ih_changes.specs.Changes.{is_changed}
+use Rattle.ih_page.specs.Changes.{was_data}
 use Rattle.ih_page.specs.TimetableData.{place_data}
 use Rattle.ih_page.specs.Values.{option_data}
 use Rattle.ih_page.proofs.changes.patient_values.Given as goal

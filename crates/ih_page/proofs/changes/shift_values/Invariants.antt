@@ -3,7 +3,8 @@ use Rattle.serde_json.specs.View.{view}
 use Rattle.ih_plan.specs.Sums.{which_below}
 use Rattle.ih_plan.specs.Timetable.{care_of}
 use Rattle.ih_solution.specs.Solution.{number_data}
-use Rattle.ih_page.specs.Changes.{has_another, was_data}
+use Rattle.ih_changes.specs.Changes.{has_another}
+use Rattle.ih_page.specs.Changes.{was_data}
 use Rattle.ih_page.specs.Values.{option_data}
 use Rattle.ih_page.proofs.changes.shift_values.Given as goal
 
