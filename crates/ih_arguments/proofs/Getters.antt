@@ -12,18 +12,10 @@ use Rattle.clap.specs.declared.parser.matches.Found.{Found}
 use Rattle.clap.proofs.WalkLemmas.{first_value-rows, one_text-rows}
 use Rattle.ih_arguments.specs.Matches.{HasNumber, IsNumberIfGiven, flag_at, number_at, number_if_given, number_of, text_at}
 
--- the text that `get_str` gives
-pub text_read : (o : Option (Bor Text)) (f : Found) (id t : Text) → option_map (λ s. s.now) o ≡ first_value f id
-    → first_of id (rows_of f) ≡ Some t
-    → IsSome o × ((s : Bor Text) → o ≡ Some s → s.now ≡ text_at id (rows_of f))
-text_read o f id t same found = (there o (same ∙ first_value-rows f id ∙ found), λ s is. text s is)
-  where
-    there : (w : Option (Bor Text)) → option_map (λ s. s.now) w ≡ Some t → IsSome w
-    there None bad = cc
-    there (Some s) is = refl
-
-    text : (s : Bor Text) → o ≡ Some s → s.now ≡ text_at id (rows_of f)
-    text s is = ap (λ w. unwrap_or w []) (ap (option_map (λ (b : Bor Text). b.now)) (sym is) ∙ same ∙ first_value-rows f id)
+-- a text that may be left out, and is empty then
+pub text_or : (o : Option (Bor Text)) (d : Bor Text) (w : Option Text) → option_map (λ s. s.now) o ≡ w → d.now ≡ [] → (unwrap_or o d).now ≡ unwrap_or w []
+text_or None d w is empty = empty ∙ ap (λ (x : Option Text). unwrap_or x []) is
+text_or (Some s) d w is empty = ap (λ (x : Option Text). unwrap_or x []) is
 
 -- the number that a text in the range is read as
 reads_number : (E : Type 0) (G : List ℕ → Result ℕ E → Type 0) (k low high : ℕ) (t : Text) (o : Option ℕ) → IsUnsignedIn low high t → high < 2 ^ k

@@ -51,3 +51,7 @@ module _ (app : App) (words : List Text) where
     pub refused-read : (n : NoCall) (rows : List Row) → IsNoHelp n → has_no_fault app words ≡ true → rows ≡ matches_of app words
         → None ≡ lawful rows → (n ≢ OutOfMemory → call_by app lawful words ≡ None) × IsExplained app words n
     refused-read n rows is none same lacks = (λ other. asked-matches rows None none same lacks, refused-as n is none)
+
+    -- and where memory ran out
+    pub memory-read : (n : NoCall) → n ≡ OutOfMemory → (n ≢ OutOfMemory → call_by app lawful words ≡ None) × IsExplained app words n
+    memory-read n is = (λ other. absurd (other is), rw is tt)

@@ -2,11 +2,11 @@
 -- with the rules of its arguments, in the order in which they were added.
 use Rattle.std.specs.Prelude.{ℕ, Bool, List, [], ◌∷◌, Some, true, codes, map}
 use Rattle.clap.specs.Words.{App, Rule, Text, new_app, new_rule, with_rule, with_subcommand}
-use Rattle.clap.specs.declared.builder.action.ArgAction.TheVariants.{Set, SetTrue}
+use Rattle.clap.specs.declared.builder.action.ArgAction.TheVariants.{Append, Set, SetTrue}
 use Rattle.ih_arguments.specs.declared.arguments.Argument.{Argument}
 use Rattle.ih_arguments.specs.declared.arguments.Description.{Description}
 use Rattle.ih_arguments.specs.declared.arguments.Kind.{Kind}
-use Rattle.ih_arguments.specs.declared.arguments.Kind.TheVariants.{Named, OptionalNamed, NamedNumber, Number, AnyNumber, Optional, OptionalNumber, OptionalAnyNumber, Flag}
+use Rattle.ih_arguments.specs.declared.arguments.Kind.TheVariants.{Named, OptionalNamed, NamedNumber, Number, AnyNumber, Optional, Repeated, OptionalNumber, OptionalAnyNumber, Flag}
 use Rattle.clap.specs.declared.builder.value_parser.ValueParser.TheVariants.{Unsigned}
 
 -- a required argument with one value, by its place
@@ -37,6 +37,10 @@ seed_option = any_number_option (codes "seed")
 abbrev pub optional : Text → Rule
 optional id = record (new_rule id) { long = Some id; action = Some Set }
 
+-- `--id VALUE`, any number of times
+abbrev pub repeated : Text → Rule
+repeated id = record (new_rule id) { long = Some id; action = Some Append }
+
 -- `--id N`, which may be left out, where N is a number from low to high
 abbrev pub optional_between : Text → ℕ → ℕ → Rule
 optional_between id low high = record (optional id) { parser = Some (Unsigned low high) }
@@ -66,6 +70,7 @@ rule_of_kind NamedNumber id = named_number id
 rule_of_kind (Number low high) id = numbered_option id low high
 rule_of_kind AnyNumber id = any_number_option id
 rule_of_kind Optional id = optional id
+rule_of_kind Repeated id = repeated id
 rule_of_kind (OptionalNumber low high) id = optional_between id low high
 rule_of_kind OptionalAnyNumber id = optional_any id
 rule_of_kind Flag id = flag id

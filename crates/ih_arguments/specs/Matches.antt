@@ -4,7 +4,7 @@ use Rattle.std.specs.Option.{option_map_or}
 use Rattle.std.specs.Str.{bytes_eq}
 use Rattle.std.specs.Str.Parse.{digits_value, without_leading_plus}
 use Rattle.clap.specs.Walk.{is_empty}
-use Rattle.clap.specs.Words.{App, IsUnsignedIn, Row, Text, fault_of, first_of, matches_of, one_of}
+use Rattle.clap.specs.Words.{App, IsUnsignedIn, Row, Text, all_of, fault_of, first_of, matches_of, one_of}
 
 -- `clap` finds no fault in the words, by the description of their command
 unfoldable pub has_no_fault : App → List Text → Bool
@@ -21,6 +21,10 @@ by_first_word asked words = option_and_then (λ name. asked name words) (slice_g
 -- the text of an argument
 abbrev pub text_at : Text → List Row → Text
 text_at id rows = unwrap_or (first_of id rows) []
+
+-- the texts of an argument, once for each time that it was given
+abbrev pub texts_at : Text → List Row → List Text
+texts_at id rows = unwrap_or (all_of id rows) []
 
 -- the argument was given
 abbrev pub is_given : Text → List Row → Bool

@@ -38,7 +38,10 @@ start_in rows = record {
 abbrev pub start_files : StartCall → List Text
 start_files s = option_to_list s.file
 
--- a freeze day is given only where the timetable of a file is taken as it is
+-- the timetable of a file is taken as it is
+abbrev pub takes_a_file : List Row → Bool
+takes_a_file rows = is_given (codes "start") rows && not (flag_at (codes "fill") rows)
+
+-- a freeze day is given only there
 abbrev pub freezes_a_file : List Row → Bool
-freezes_a_file rows =
-    not (is_given (codes "freeze") rows) || (is_given (codes "start") rows && not (flag_at (codes "fill") rows))
+freezes_a_file rows = not (is_given (codes "freeze") rows) || takes_a_file rows

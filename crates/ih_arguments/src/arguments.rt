@@ -4,7 +4,7 @@ ghost use Rattle.std.specs.List.{list_all};
 ghost use Rattle.clap.specs.Words.{app_of, rule_of};
 ghost use Rattle.ih_arguments.specs.Arguments.{any_number_option, app_by, flag, is_plain_by, named, named_number};
 ghost use Rattle.ih_arguments.specs.Arguments.{numbered_option, optional, optional_any, optional_between};
-ghost use Rattle.ih_arguments.specs.Arguments.{optional_name, rule_by, with_commands};
+ghost use Rattle.ih_arguments.specs.Arguments.{optional_name, repeated, rule_by, with_commands};
 ghost use Rattle.ih_arguments.specs.Arguments.{with_rules};
 
 use clap::{Arg, ArgAction, Command, value_parser};
@@ -25,6 +25,8 @@ pub enum Kind {
     AnyNumber,
     /// `--id VALUE`, which may be left out.
     Optional,
+    /// `--id VALUE`, any number of times.
+    Repeated,
     /// `--id N`, which may be left out, where N is a number from the first to the second.
     OptionalNumber(u32, u32),
     /// `--id N`, which may be left out, where N is any number of 64 bits.
@@ -50,6 +52,17 @@ macro_rules! argument {
     };
     ($id:expr, $kind:expr, $help:expr) => {
         Argument { id: $id, kind: $kind, help: $help }
+    };
+}
+
+/// A command with these arguments, with or without what the help says of it and the words that call it.
+#[macro_export]
+macro_rules! described {
+    ($name:expr, [$($argument:expr),* $(,)?]) => {
+        described!($name, "", "", [$($argument),*])
+    };
+    ($name:expr, $about:expr, $called:expr, [$($argument:expr),* $(,)?]) => {
+        Description { name: $name, about: $about, called: $called, arguments: &[$($argument),*] }
     };
 }
 
@@ -115,6 +128,14 @@ fn optional<'a>(alloc: Global, id: &'a str) -> Arg<'a>
     Arg::new(alloc, id).long(id).action(ArgAction::Set)
 }
 
+// `--id VALUE`, any number of times.
+fn repeated<'a>(alloc: Global, id: &'a str) -> Arg<'a>
+    ensures rule { rule_of result ≡ repeated id.entry.now }
+    ensures local { result.global ≡ false }
+{
+    Arg::new(alloc, id).long(id).action(ArgAction::Append)
+}
+
 // `--id N`, which may be left out, where N is a number from `low` to `high`.
 fn optional_between<'a>(alloc: Global, id: &'a str, low: u32, high: u32) -> Arg<'a>
     ensures rule { rule_of result ≡ optional_between id.entry.now low high }
@@ -152,6 +173,7 @@ fn made<'a>(alloc: Global, argument: &Argument<'a>) -> Arg<'a>
         Kind::Number(low, high) => numbered_option(alloc, id, low, high),
         Kind::AnyNumber => any_number_option(alloc, id),
         Kind::Optional => optional(alloc, id),
+        Kind::Repeated => repeated(alloc, id),
         Kind::OptionalNumber(low, high) => optional_between(alloc, id, low, high),
         Kind::OptionalAnyNumber => optional_any(alloc, id),
         Kind::Flag => flag(alloc, id),

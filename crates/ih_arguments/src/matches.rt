@@ -2,13 +2,13 @@
 ghost use Rattle.std.specs.Prelude.{◌≡◌, IfErr, IfOk, true, map, option_map, string_bytes};
 ghost use Rattle.clap.specs.Words.{HasKind, fault_of, first_of, found_of, is_simple_and_free, rows_of};
 ghost use Rattle.ih_arguments.specs.Arguments.{app_by};
-ghost use Rattle.ih_arguments.specs.Matches.{HasNumber, HasText, IsNumberIfGiven, flag_at};
-ghost use Rattle.ih_arguments.specs.Matches.{is_given, number_at, number_if_given, text_at};
+ghost use Rattle.ih_arguments.specs.Matches.{HasNumber, IsNumberIfGiven, flag_at};
+ghost use Rattle.ih_arguments.specs.Matches.{is_given, number_at, number_if_given, text_at, texts_at};
 ghost use Rattle.ih_arguments.specs.Rules.{AreMatches, has_independent_rules};
 
 use crate::arguments::{Description, command};
 use clap::ArgMatches;
-use std::alloc::Global;
+use std::alloc::{AllocError, Global};
 
 /// What `clap` reads of the words of a command with this description, or its error, which has a text for the user.
 pub fn matched<'a>(
@@ -28,19 +28,32 @@ pub fn matched<'a>(
     }
 }
 
-/// The text of an argument that has one.
-pub fn text_of<'a>(matches: &ArgMatches<'a>, id: &str) -> &'a str
-    requires { HasText id.now (rows_of (found_of matches.now)) }
-    ensures { result.now ≡ text_at id.now (rows_of (found_of matches.now)) }
-{
-    matches.get_str(id).unwrap()
-}
-
 /// The text of an argument that may be left out.
 pub fn optional_text_of<'a>(matches: &ArgMatches<'a>, id: &str) -> Option<&'a str>
     ensures { option_map (λ t. t.now) result ≡ first_of id.now (rows_of (found_of matches.now)) }
 {
     matches.get_str(id)
+}
+
+/// The texts of an argument, once for each time that it was given.
+pub fn texts_of<'a>(
+    alloc: Global,
+    matches: &ArgMatches<'a>,
+    id: &str,
+) -> Result<Vec<&'a str>, AllocError>
+    ensures { IfOk result (λ texts. map (λ t. t.now) texts.items ≡ texts_at id.now (rows_of (found_of matches.now))) }
+{
+    match matches.get_strs(id) {
+        None => Ok(Vec::new(alloc)),
+        Some(texts) => Vec::from_slice(alloc, texts),
+    }
+}
+
+/// The text of an argument; where it was left out, an empty one.
+pub fn text_of<'a>(matches: &ArgMatches<'a>, id: &str) -> &'a str
+    ensures { result.now ≡ text_at id.now (rows_of (found_of matches.now)) }
+{
+    optional_text_of(matches, id).unwrap_or("")
 }
 
 /// The argument was given.

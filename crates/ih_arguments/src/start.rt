@@ -1,7 +1,7 @@
 //! What a search starts from, and the first day whose choices it may change: `--start F`, `--freeze DAY` and `--fill`.
 ghost use Rattle.std.specs.Prelude.{◌≡◌, codes};
 ghost use Rattle.clap.specs.Words.{found_of, rows_of};
-ghost use Rattle.ih_arguments.specs.Start.{freezes_a_file, start_call, start_in};
+ghost use Rattle.ih_arguments.specs.Start.{freezes_a_file, start_call, start_in, takes_a_file};
 ghost use Rattle.ih_arguments.specs.Matches.{IsNumberIfGiven};
 
 use crate::argument;
@@ -54,9 +54,16 @@ pub fn start_in<'a>(matches: &ArgMatches<'a>) -> Start<'a>
     }
 }
 
-/// A freeze day is given only where the timetable of a file is taken as it is.
+/// The timetable of a file is taken as it is.
+pub fn takes_a_file(matches: &ArgMatches) -> bool
+    ensures { result ≡ takes_a_file (rows_of (found_of matches.now)) }
+{
+    is_given(matches, "start") && !flag_of(matches, "fill")
+}
+
+/// A freeze day is given only there.
 pub fn freezes_a_file(matches: &ArgMatches) -> bool
     ensures { result ≡ freezes_a_file (rows_of (found_of matches.now)) }
 {
-    !is_given(matches, "freeze") || is_given(matches, "start") && !flag_of(matches, "fill")
+    !is_given(matches, "freeze") || takes_a_file(matches)
 }

@@ -1,4 +1,4 @@
 mod Examples
 mod Unlawful
-mod PlainValues
+mod SearchRules
 pub mod CallNames

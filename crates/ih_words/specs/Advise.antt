@@ -4,7 +4,7 @@ use Rattle.clap.specs.Words.{App, Row, Text, with_rule}
 use Rattle.ih_plan.specs.declared.limits.TheConstants.{MAX_HARD, MAX_WORKERS}
 use Rattle.ih_arguments.specs.Arguments.{files_app, numbered_option}
 use Rattle.ih_arguments.specs.Distinct.{all_differ}
-use Rattle.ih_arguments.specs.Matches.{HasFiles, HasNumber, number_at, text_at}
+use Rattle.ih_arguments.specs.Matches.{HasNumber, number_at, text_at}
 use Rattle.ih_words.specs.declared.advise.Advise.{Advise}
 
 -- advise INSTANCE SOLUTION --hard N --workers N
@@ -30,9 +30,8 @@ pub record IsLawfulAdvise (a : Advise) : Type 0 where
   pub some : 1 ≤ a.workers
   pub few : a.workers ≤ MAX_WORKERS
 
--- the file names and the options are there, and the options are within their limits
+-- the options are there, and within their limits
 pub record HasAdvise (rows : List Row) : Type 0 where
-  pub files : HasFiles rows
   pub hard : HasNumber 0 MAX_HARD (codes "hard") rows
   pub workers : HasNumber 1 MAX_WORKERS (codes "workers") rows
 

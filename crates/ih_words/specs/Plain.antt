@@ -6,9 +6,8 @@ use Rattle.ih_journal.specs.Settings.{IsLawful, most_entries}
 use Rattle.ih_journal.specs.declared.settings.TheConstants.{MAX_ENTRIES}
 use Rattle.ih_arguments.specs.Arguments.{flag, numbered_option, optional}
 use Rattle.ih_arguments.specs.Distinct.{all_differ}
-use Rattle.ih_arguments.specs.Matches.{HasNames, flag_at, number_at, text_at}
-use Rattle.ih_words.specs.SearchOptions.{HasOptions, options_in}
-use Rattle.ih_words.specs.Solve.{SolveCall, search_app, solve_call, solve_files}
+use Rattle.ih_arguments.specs.Matches.{flag_at, number_at}
+use Rattle.ih_words.specs.Solve.{SolveCall, search_app, search_in, solve_call, solve_files}
 use Rattle.ih_words.specs.declared.plain.Plain.{Plain}
 use Rattle.ih_words.specs.declared.plain.TheConstants.{MAX_LENGTH, MAX_ROUNDS}
 use Rattle.ih_words.specs.declared.solve.Solve.{Solve}
@@ -51,20 +50,10 @@ pub record PlainCall : Type 0 where
 abbrev pub plain_call : Plain → PlainCall
 plain_call p = record { search = solve_call p.search; number = p.number }
 
--- the file names and the options of a search are there
-pub record HasPlain (rows : List Row) : Type 0 where
-  pub names : HasNames rows (codes "INSTANCE") (codes "OUT") (codes "JOURNAL")
-  pub options : HasOptions rows
-
 -- the search, by `clap`'s matches: nothing is frozen, and no stale move is tried again
 abbrev pub plain_search_in : List Row → SolveCall
-plain_search_in rows = record {
-  instance = text_at (codes "INSTANCE") rows;
-  out = text_at (codes "OUT") rows;
-  journal = text_at (codes "JOURNAL") rows;
-  options = options_in rows 0;
-  start = record { file = first_of (codes "start") rows; fill = flag_at (codes "fill") rows; freeze = 0 };
-}
+plain_search_in rows =
+    search_in rows 0 (record { file = first_of (codes "start") rows; fill = flag_at (codes "fill") rows; freeze = 0 })
 
 -- the file names of the search differ, and its entries, so many times taken, are at most a million
 abbrev pub is_lawful_plain : SolveCall → ℕ → Bool

@@ -1,5 +1,5 @@
 -- The command `solve`: its description for `clap`, its values and when they are lawful.
-use Rattle.std.specs.Prelude.{◌&&◌, nat_le, Bool, List, ◌∷◌, Option, Some, None, codes, if◌then◌else◌}
+use Rattle.std.specs.Prelude.{◌&&◌, nat_le, ℕ, Bool, List, ◌∷◌, Option, Some, None, codes, if◌then◌else◌}
 use Rattle.clap.specs.Words.{App, Row, Text, new_app, with_rule}
 use Rattle.ih_arguments.specs.Arguments.{named, optional_number}
 use Rattle.ih_words.specs.SearchOptions.{with_options}
@@ -39,15 +39,19 @@ solve_call s = record {
   start = start_call s.start;
 }
 
--- the call of solve, by `clap`'s matches; without `--retries` a stale move isn't tried again
-abbrev pub solve_in : List Row → SolveCall
-solve_in rows = record {
+-- a search by `clap`'s matches, with so many retries and from this start
+abbrev pub search_in : List Row → ℕ → StartCall → SolveCall
+search_in rows retries start = record {
   instance = text_at (codes "INSTANCE") rows;
   out = text_at (codes "OUT") rows;
   journal = text_at (codes "JOURNAL") rows;
-  options = options_in rows (number_at (codes "retries") rows);
-  start = start_in rows;
+  options = options_in rows retries;
+  start = start;
 }
+
+-- the call of solve, by `clap`'s matches; without `--retries` a stale move isn't tried again
+abbrev pub solve_in : List Row → SolveCall
+solve_in rows = search_in rows (number_at (codes "retries") rows) (start_in rows)
 
 -- the files that a call of solve reads or writes
 abbrev pub solve_files : SolveCall → List Text

@@ -9,6 +9,7 @@ use crate::WordsError;
 use crate::search_options::{HARD, INSTANCE, SOLUTION, WORKERS, matches_in};
 use clap::ArgMatches;
 use ih_arguments::arguments::Description;
+use ih_arguments::described;
 use ih_arguments::file_names::all_differ;
 use ih_arguments::matches::{text_of, u32_of};
 use std::alloc::Global;
@@ -26,13 +27,10 @@ pub struct Advise<'a> {
     pub workers: u32,
 }
 
-// `advise INSTANCE SOLUTION --hard N --workers N`.
-const ADVISE: Description<'static, 'static> = Description {
-    name: "advise",
-    about: "",
-    called: "",
-    arguments: &[INSTANCE, SOLUTION, HARD, WORKERS],
-};
+const ADVISE: Description<'static, 'static> = described!(
+    "advise",
+    [INSTANCE, SOLUTION, HARD, WORKERS]
+);
 
 // The values of `advise`.
 fn advise_in<'a>(matches: &ArgMatches<'a>) -> Advise<'a>

@@ -2,13 +2,14 @@
 ghost use Rattle.std.specs.Prelude.{◌≡◌, map, option_map, string_bytes};
 ghost use Rattle.clap.specs.Words.{found_of, rows_of};
 ghost use Rattle.ih_words.specs.Check.{check_app, check_call, lawful_check};
-ghost use Rattle.ih_arguments.specs.Matches.{HasFiles, call_by};
+ghost use Rattle.ih_arguments.specs.Matches.{call_by};
 ghost use Rattle.ih_words.specs.SearchOptions.{IsAnswer};
 
 use crate::WordsError;
 use crate::search_options::{INSTANCE, SOLUTION, matches_in};
 use clap::ArgMatches;
 use ih_arguments::arguments::Description;
+use ih_arguments::described;
 use ih_arguments::file_names::all_differ;
 use ih_arguments::matches::text_of;
 use std::alloc::Global;
@@ -23,16 +24,10 @@ pub struct Check<'a> {
 }
 
 // `check INSTANCE SOLUTION`.
-const CHECK: Description<'static, 'static> = Description {
-    name: "check",
-    about: "",
-    called: "",
-    arguments: &[INSTANCE, SOLUTION],
-};
+const CHECK: Description<'static, 'static> = described!("check", [INSTANCE, SOLUTION]);
 
 // The values of `check`, where the file names differ.
 fn lawful_check<'a>(matches: &ArgMatches<'a>) -> Option<Check<'a>>
-    requires { HasFiles (rows_of (found_of matches.now)) }
     ensures { option_map check_call result ≡ lawful_check (rows_of (found_of matches.now)) }
 {
     let check = Check {

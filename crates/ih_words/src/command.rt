@@ -7,7 +7,7 @@ use crate::advise::read_advise;
 use crate::check::read_check;
 use crate::demo::read_demo;
 use crate::generate::read_gen;
-use crate::plain::{CHAIN, MAX_LENGTH, MAX_ROUNDS, ROUNDS, read_plain};
+use crate::plain::{MAX_LENGTH, MAX_ROUNDS, read_plain};
 use crate::replay::read_replay;
 use crate::solve::read_solve;
 use crate::{Advise, Check, Gen, Plain, Replay, Solve, WordsError};
@@ -48,11 +48,11 @@ fn read_named<'a>(alloc: Global, name: &str, words: &'a [String]) -> Result<Comm
         "salvage" => Ok(Command::Salvage(read_replay(alloc, "salvage", words)?)),
         "check" => Ok(Command::Check(read_check(alloc, words)?)),
         "chain" => {
-            let plain = read_plain(alloc, &CHAIN, "length", MAX_LENGTH, words)?;
+            let plain = read_plain(alloc, "chain", "length", MAX_LENGTH, words)?;
             Ok(Command::Chain(plain))
         }
         "rounds" => {
-            let plain = read_plain(alloc, &ROUNDS, "rounds", MAX_ROUNDS, words)?;
+            let plain = read_plain(alloc, "rounds", "rounds", MAX_ROUNDS, words)?;
             Ok(Command::Rounds(plain))
         }
         "advise" => Ok(Command::Advise(read_advise(alloc, words)?)),

@@ -6,16 +6,11 @@ ghost use Rattle.ih_words.specs.{Demo.demo_app, Demo.lawful_demo, SearchOptions.
 use crate::WordsError;
 use crate::search_options::{NUMBER, matches_in};
 use ih_arguments::arguments::Description;
+use ih_arguments::described;
 use ih_arguments::matches::u64_of;
 use std::alloc::Global;
 
-// `demo NUMBER`.
-const DEMO: Description<'static, 'static> = Description {
-    name: "demo",
-    about: "",
-    called: "",
-    arguments: &[NUMBER],
-};
+const DEMO: Description<'static, 'static> = described!("demo", [NUMBER]);
 
 // Reads the words of `demo`: its number.
 pub(crate) fn read_demo(alloc: Global, words: &[String]) -> Result<u64, WordsError>

@@ -2,13 +2,14 @@
 ghost use Rattle.std.specs.Prelude.{◌≡◌, codes, map, string_bytes};
 ghost use Rattle.clap.specs.Words.{found_of, rows_of};
 ghost use Rattle.ih_words.specs.Generate.{gen_app, gen_call, gen_in, lawful_gen};
-ghost use Rattle.ih_arguments.specs.Matches.{HasNumber, HasText, call_by};
+ghost use Rattle.ih_arguments.specs.Matches.{HasNumber, call_by};
 ghost use Rattle.ih_words.specs.SearchOptions.{IsAnswer};
 
 use crate::WordsError;
 use crate::search_options::{NUMBER, OUT, matches_in};
 use clap::ArgMatches;
 use ih_arguments::arguments::Description;
+use ih_arguments::described;
 use ih_arguments::matches::{text_of, u64_of};
 use std::alloc::Global;
 
@@ -21,18 +22,11 @@ pub struct Gen<'a> {
     pub out: &'a str,
 }
 
-// `gen NUMBER OUT`.
-const GEN: Description<'static, 'static> = Description {
-    name: "gen",
-    about: "",
-    called: "",
-    arguments: &[NUMBER, OUT],
-};
+const GEN: Description<'static, 'static> = described!("gen", [NUMBER, OUT]);
 
 // The values of `gen`.
 fn gen_in<'a>(matches: &ArgMatches<'a>) -> Gen<'a>
-    requires number { HasNumber 0 18446744073709551615 (codes "NUMBER") (rows_of (found_of matches.now)) }
-    requires out { HasText (codes "OUT") (rows_of (found_of matches.now)) }
+    requires { HasNumber 0 18446744073709551615 (codes "NUMBER") (rows_of (found_of matches.now)) }
     ensures { gen_call result ≡ gen_in (rows_of (found_of matches.now)) }
 {
     Gen {

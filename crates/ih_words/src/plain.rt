@@ -4,23 +4,21 @@ ghost use Rattle.std.specs.Prelude.{◌≡◌, ◌≤◌, ◌*◌, IfOk, IfSome,
 ghost use Rattle.clap.specs.Words.{found_of, is_simple_and_free, rows_of};
 ghost use Rattle.ih_journal.specs.Settings.{IsLawful, most_entries};
 ghost use Rattle.ih_arguments.specs.Matches.{HasNumber, call_by, number_at};
-ghost use Rattle.ih_words.specs.SearchOptions.{IsAnswer};
-ghost use Rattle.ih_words.specs.Plain.{HasPlain, IsPlain, IsPlainTo, is_lawful_plain, lawful_plain};
+ghost use Rattle.ih_words.specs.SearchOptions.{HasOptions, IsAnswer};
+ghost use Rattle.ih_words.specs.Plain.{IsPlain, IsPlainTo, is_lawful_plain, lawful_plain};
 ghost use Rattle.ih_words.specs.Plain.{lawful_plain_to, plain_app, plain_call, plain_search_in};
-ghost use Rattle.ih_arguments.specs.{Arguments.app_by, Rules.has_independent_rules};
+ghost use Rattle.ih_arguments.specs.{Rules.has_independent_rules};
 ghost use Rattle.ih_words.specs.{Solve.solve_call};
 
 use crate::WordsError;
-use crate::search_options::{
-    HARD, HEAT, INSTANCE, JOURNAL, MOVES, OUT, SEED, WORKERS, matches_in, options_in,
-};
-use crate::solve::Solve;
+use crate::search_options::{HARD, HEAT, INSTANCE, JOURNAL, MOVES, OUT, SEED, WORKERS, matches_in};
+use crate::solve::{Solve, search_in};
 use clap::ArgMatches;
-use ih_arguments::argument;
 use ih_arguments::arguments::{Argument, Description, Kind};
 use ih_arguments::file_names::names_differ;
-use ih_arguments::matches::{flag_of, optional_text_of, text_of, u32_of};
+use ih_arguments::matches::{flag_of, optional_text_of, u32_of};
 use ih_arguments::start::{FILL, START, Start};
+use ih_arguments::{argument, described};
 use ih_journal::{MAX_ENTRIES, Options};
 use std::alloc::Global;
 
@@ -42,23 +40,18 @@ pub struct Plain<'a> {
 
 // The search.
 fn plain_search_in<'a>(matches: &ArgMatches<'a>) -> Solve<'a>
-    requires { HasPlain (rows_of (found_of matches.now)) }
+    requires { HasOptions (rows_of (found_of matches.now)) }
     ensures value { solve_call result ≡ plain_search_in (rows_of (found_of matches.now)) }
     ensures limits { most_entries result.options ≤ MAX_ENTRIES → IsLawful result.options }
     ensures once { result.options.retries ≡ 0 }
     ensures unfrozen { result.start.freeze ≡ 0 }
 {
-    Solve {
-        instance: text_of(matches, "INSTANCE"),
-        out: text_of(matches, "OUT"),
-        journal: text_of(matches, "JOURNAL"),
-        options: options_in(matches, 0),
-        start: Start {
-            file: optional_text_of(matches, "start"),
-            fill: flag_of(matches, "fill"),
-            freeze: 0,
-        },
-    }
+    let start = Start {
+        file: optional_text_of(matches, "start"),
+        fill: flag_of(matches, "fill"),
+        freeze: 0,
+    };
+    search_in(matches, 0, start)
 }
 
 // The entries of a search, so many times taken, are at most so many as a journal may have.
@@ -93,7 +86,7 @@ fn is_lawful_plain(search: &Solve, times: u32) -> bool
 
 // The search and the number, where the file names differ and the entries are few enough.
 fn lawful_plain<'a>(matches: &ArgMatches<'a>, id: &str) -> Option<Plain<'a>>
-    requires search { HasPlain (rows_of (found_of matches.now)) }
+    requires search { HasOptions (rows_of (found_of matches.now)) }
     requires number { HasNumber 1 4294967295 id.now (rows_of (found_of matches.now)) }
     ensures value { option_map plain_call result ≡ lawful_plain id.now (rows_of (found_of matches.now)) }
     ensures number { IfSome result (λ p. p.number ≡ number_at id.now (rows_of (found_of matches.now))) }
@@ -109,62 +102,28 @@ fn lawful_plain<'a>(matches: &ArgMatches<'a>, id: &str) -> Option<Plain<'a>>
     }
 }
 
-// `chain INSTANCE OUT JOURNAL` and its options.
-pub(crate) const CHAIN: Description<'static, 'static> = Description {
-    name: "chain",
-    about: "",
-    called: "",
-    arguments: &[
-        INSTANCE,
-        OUT,
-        JOURNAL,
-        SEED,
-        WORKERS,
-        MOVES,
-        HEAT,
-        HARD,
-        argument!("length", Kind::Number(1, MAX_LENGTH)),
-        START,
-        FILL,
-    ],
-};
-
-// `rounds INSTANCE OUT JOURNAL` and its options.
-pub(crate) const ROUNDS: Description<'static, 'static> = Description {
-    name: "rounds",
-    about: "",
-    called: "",
-    arguments: &[
-        INSTANCE,
-        OUT,
-        JOURNAL,
-        SEED,
-        WORKERS,
-        MOVES,
-        HEAT,
-        HARD,
-        argument!("rounds", Kind::Number(1, MAX_ROUNDS)),
-        START,
-        FILL,
-    ],
-};
-
-// Reads the words of such a command, whose number is `--id N` from 1 to `high`: the search and the number.
+// Reads the words of the command with the name, whose number is `--id N` from 1 to `high`: the search and the number.
 pub(crate) fn read_plain<'a>(
     alloc: Global,
-    description: &Description<'_, 'a>,
-    id: &str,
+    name: &'a str,
+    id: &'a str,
     high: u32,
     words: &'a [String],
 ) -> Result<Plain<'a>, WordsError>
-    requires described { app_by description.now ≡ plain_app description.now.name.now id.now high }
-    requires simple { is_simple_and_free (app_by description.now) ≡ true }
-    requires independent { has_independent_rules (app_by description.now) ≡ true }
+    requires simple { is_simple_and_free (plain_app name.now id.now high) ≡ true }
+    requires independent { has_independent_rules (plain_app name.now id.now high) ≡ true }
     ensures read { IsAnswer plain_call
-        (call_by (plain_app description.entry.now.name.now id.entry.now high) (lawful_plain_to high id.entry.now)
+        (call_by (plain_app name.entry.now id.entry.now high) (lawful_plain_to high id.entry.now)
         (map string_bytes words.entry.now)) result }
     ensures lawful { IfOk result (IsPlainTo high) }
 {
-    let matches = matches_in(alloc, description, words)?;
+    let number = argument!(id, Kind::Number(1, high));
+    let description = described!(
+        name,
+        [
+            INSTANCE, OUT, JOURNAL, SEED, WORKERS, MOVES, HEAT, HARD, number, START, FILL
+        ]
+    );
+    let matches = matches_in(alloc, &description, words)?;
     lawful_plain(&matches, id).ok_or(WordsError::Unlawful)
 }

@@ -1,7 +1,7 @@
 //! The commands `replay` and `salvage`: their description for `clap`, their values and when these are lawful.
 ghost use Rattle.std.specs.Prelude.{◌≡◌, codes, map, option_map, string_bytes};
 ghost use Rattle.clap.specs.Words.{found_of, rows_of};
-ghost use Rattle.ih_arguments.specs.Matches.{HasNames, IsNumberIfGiven, call_by};
+ghost use Rattle.ih_arguments.specs.Matches.{IsNumberIfGiven, call_by};
 ghost use Rattle.ih_words.specs.SearchOptions.{IsAnswer};
 ghost use Rattle.ih_words.specs.Replay.{lawful_replay, replay_app, replay_call, replay_in};
 ghost use Rattle.ih_plan.specs.declared.limits.TheConstants.{MAX_FREEZE};
@@ -10,6 +10,7 @@ use crate::WordsError;
 use crate::search_options::{INSTANCE, JOURNAL, OUT, matches_in};
 use clap::ArgMatches;
 use ih_arguments::arguments::Description;
+use ih_arguments::described;
 use ih_arguments::file_names::names_differ;
 use ih_arguments::matches::text_of;
 use ih_arguments::start::{FILL, FREEZE, START, Start, freezes_a_file, start_in};
@@ -30,8 +31,7 @@ pub struct Replay<'a> {
 
 // The values of `replay` or `salvage`.
 fn replay_in<'a>(matches: &ArgMatches<'a>) -> Replay<'a>
-    requires names { HasNames (rows_of (found_of matches.now)) (codes "INSTANCE") (codes "JOURNAL") (codes "OUT") }
-    requires freeze { IsNumberIfGiven 0 MAX_FREEZE (codes "freeze") (rows_of (found_of matches.now)) }
+    requires { IsNumberIfGiven 0 MAX_FREEZE (codes "freeze") (rows_of (found_of matches.now)) }
     ensures { replay_call result ≡ replay_in (rows_of (found_of matches.now)) }
 {
     Replay {
@@ -44,8 +44,7 @@ fn replay_in<'a>(matches: &ArgMatches<'a>) -> Replay<'a>
 
 // The values of `replay` or `salvage`, where the file names differ and the freeze day is lawful.
 fn lawful_replay<'a>(matches: &ArgMatches<'a>) -> Option<Replay<'a>>
-    requires names { HasNames (rows_of (found_of matches.now)) (codes "INSTANCE") (codes "JOURNAL") (codes "OUT") }
-    requires freeze { IsNumberIfGiven 0 MAX_FREEZE (codes "freeze") (rows_of (found_of matches.now)) }
+    requires { IsNumberIfGiven 0 MAX_FREEZE (codes "freeze") (rows_of (found_of matches.now)) }
     ensures { option_map replay_call result ≡ lawful_replay (rows_of (found_of matches.now)) }
 {
     let replay = replay_in(matches);
@@ -71,12 +70,7 @@ pub(crate) fn read_replay<'a>(
     ensures { IsAnswer replay_call
         (call_by (replay_app name.entry.now) lawful_replay (map string_bytes words.entry.now)) result }
 {
-    let description = Description {
-        name,
-        about: "",
-        called: "",
-        arguments: &[INSTANCE, JOURNAL, OUT, START, FREEZE, FILL],
-    };
+    let description = described!(name, [INSTANCE, JOURNAL, OUT, START, FREEZE, FILL]);
     let matches = matches_in(alloc, &description, words)?;
     lawful_replay(&matches).ok_or(WordsError::Unlawful)
 }

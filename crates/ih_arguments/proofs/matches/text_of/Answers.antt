@@ -1,9 +1,8 @@
-use Rattle.clap.specs.Words.{found_of}
-use Rattle.ih_arguments.proofs.Getters.{text_read}
+use Rattle.std.proofs.Common.{◌∙◌, ap, refl}
+use Rattle.std.specs.Borrow.{Bor}
+use Rattle.clap.specs.Words.{Text}
+use Rattle.ih_arguments.proofs.Getters.{text_or}
 use Rattle.ih_arguments.proofs.matches.text_of.Goals as goal
 
-pub unwrap-requires : goal.unwrap-requires
-unwrap-requires c = (text_read c.get_str.result (found_of c.args.matches.now) c.args.id.now c.requires.0 c.get_str.ensures c.requires.1).0
-
 pub returns : goal.returns
-returns c = (text_read c.get_str.result (found_of c.args.matches.now) c.args.id.now c.requires.0 c.get_str.ensures c.requires.1).1 c.unwrap.result c.unwrap.ensures
+returns c = ap (λ (b : Bor Text). b.now) c.unwrap_or.ensures ∙ text_or c.optional_text_of.result _ _ c.optional_text_of.ensures refl

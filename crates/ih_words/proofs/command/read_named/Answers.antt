@@ -7,11 +7,11 @@ use Rattle.ih_words.proofs.command.read_named.Goals as goal
 
 pub read_plain-requires : goal.read_plain-requires
 unfolding clap_on_literals plain_app all_differ
-read_plain-requires c = record { described = refl; simple = refl; independent = refl }
+read_plain-requires c = record { simple = refl; independent = refl }
 
 pub read_plain-requires-in-rounds : goal.read_plain-requires-in-rounds
 unfolding clap_on_literals plain_app all_differ
-read_plain-requires-in-rounds c = record { described = refl; simple = refl; independent = refl }
+read_plain-requires-in-rounds c = record { simple = refl; independent = refl }
 
 -- a name that is no command's
 pub returns-in_default-clause-read : goal.returns-in_default-clause-read

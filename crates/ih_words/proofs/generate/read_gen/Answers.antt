@@ -1,10 +1,9 @@
-use Rattle.std.proofs.Common.{codes, refl}
+use Rattle.std.proofs.Common.{Some, ap, codes, refl}
 use Rattle.clap.proofs.OnLiterals.{clap_on_literals}
-use Rattle.ih_arguments.specs.Arguments.{named, named_number}
+use Rattle.ih_arguments.specs.Arguments.{named_number}
 use Rattle.ih_arguments.specs.Distinct.{all_differ}
 use Rattle.ih_words.specs.Generate.{gen_app}
-use Rattle.ih_arguments.proofs.DescriptionRules.{requires_name, requires_named_number}
-use Rattle.std.proofs.Common.{ap, Some}
+use Rattle.ih_arguments.proofs.DescriptionRules.{requires_named_number}
 use Rattle.ih_words.specs.Generate.{gen_call, lawful_gen}
 use Rattle.ih_words.proofs.Unlawful.{called-answer, refused-answer}
 use Rattle.ih_words.proofs.generate.read_gen.Goals as goal
@@ -13,15 +12,10 @@ pub matches_in-requires : goal.matches_in-requires
 unfolding clap_on_literals gen_app all_differ
 matches_in-requires c = record { simple = refl; independent = refl }
 
-pub gen_in-requires-clause-number : goal.gen_in-requires-clause-number
+pub gen_in-requires : goal.gen_in-requires
 unfolding gen_app
-gen_in-requires-clause-number c =
+gen_in-requires c =
     c.in_ok-matches.ensures.matched.numbers 0 (named_number (codes "NUMBER")) 0 18446744073709551615 (requires_named_number refl)
-
-pub gen_in-requires-clause-out : goal.gen_in-requires-clause-out
-unfolding gen_app
-gen_in-requires-clause-out c =
-    c.in_ok-matches.ensures.matched.texts 1 (named (codes "OUT")) (requires_name refl)
 
 pub returns-in_err-matches : goal.returns-in_err-matches
 unfolding gen_app

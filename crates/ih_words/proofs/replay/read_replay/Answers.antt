@@ -1,10 +1,10 @@
 use Rattle.std.proofs.Common.{codes, refl}
 use Rattle.clap.proofs.OnLiterals.{clap_on_literals}
-use Rattle.ih_arguments.specs.Arguments.{named, optional_number}
+use Rattle.ih_arguments.specs.Arguments.{optional_number}
 use Rattle.ih_arguments.specs.Distinct.{all_differ}
 use Rattle.ih_words.specs.Replay.{replay_app}
 use Rattle.ih_plan.specs.declared.limits.TheConstants.{MAX_FREEZE}
-use Rattle.ih_arguments.proofs.DescriptionRules.{requires_name, takes_number}
+use Rattle.ih_arguments.proofs.DescriptionRules.{takes_number}
 use Rattle.ih_words.specs.Replay.{replay_call, lawful_replay}
 use Rattle.ih_words.proofs.Unlawful.{lawful-answer, refused-answer}
 use Rattle.ih_words.proofs.replay.read_replay.Goals as goal
@@ -13,15 +13,8 @@ pub matches_in-requires : goal.matches_in-requires
 unfolding clap_on_literals all_differ
 matches_in-requires c = record { simple = refl; independent = refl }
 
-pub lawful_replay-requires-clause-names : goal.lawful_replay-requires-clause-names
-lawful_replay-requires-clause-names c = record {
-  first = c.in_ok-matches.ensures.matched.texts 0 (named (codes "INSTANCE")) (requires_name refl);
-  second = c.in_ok-matches.ensures.matched.texts 1 (named (codes "JOURNAL")) (requires_name refl);
-  third = c.in_ok-matches.ensures.matched.texts 2 (named (codes "OUT")) (requires_name refl);
-}
-
-pub lawful_replay-requires-clause-freeze : goal.lawful_replay-requires-clause-freeze
-lawful_replay-requires-clause-freeze c =
+pub lawful_replay-requires : goal.lawful_replay-requires
+lawful_replay-requires c =
     c.in_ok-matches.ensures.matched.optional 4 (optional_number (codes "freeze") MAX_FREEZE) 0 MAX_FREEZE (takes_number refl)
 
 pub returns-in_err-matches : goal.returns-in_err-matches

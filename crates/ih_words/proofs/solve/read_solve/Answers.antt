@@ -1,13 +1,12 @@
 use Rattle.std.proofs.Common.{codes, refl}
 use Rattle.clap.proofs.OnLiterals.{clap_on_literals}
-use Rattle.ih_plan.specs.declared.limits.TheConstants.{MAX_HARD, MAX_HEAT, MAX_WORKERS}
-use Rattle.ih_journal.specs.declared.settings.TheConstants.{MAX_MOVES, MAX_RETRIES}
-use Rattle.ih_arguments.specs.Arguments.{named, numbered_option, optional_number, seed_option}
-use Rattle.ih_arguments.specs.Distinct.{all_differ}
-use Rattle.ih_words.specs.Solve.{solve_app}
 use Rattle.ih_plan.specs.declared.limits.TheConstants.{MAX_FREEZE}
-use Rattle.ih_arguments.proofs.DescriptionRules.{requires_name, requires_number, takes_number}
-use Rattle.ih_words.specs.Solve.{solve_call, lawful_solve}
+use Rattle.ih_journal.specs.declared.settings.TheConstants.{MAX_RETRIES}
+use Rattle.ih_arguments.specs.Arguments.{optional_number}
+use Rattle.ih_arguments.specs.Distinct.{all_differ}
+use Rattle.ih_arguments.proofs.DescriptionRules.{takes_number}
+use Rattle.ih_words.specs.Solve.{lawful_solve, solve_app, solve_call}
+use Rattle.ih_words.proofs.SearchRules.{has_options}
 use Rattle.ih_words.proofs.Unlawful.{lawful-answer, refused-answer}
 use Rattle.ih_words.proofs.solve.read_solve.Goals as goal
 
@@ -15,23 +14,9 @@ pub matches_in-requires : goal.matches_in-requires
 unfolding clap_on_literals solve_app all_differ
 matches_in-requires c = record { simple = refl; independent = refl }
 
-pub lawful_solve-requires-clause-names : goal.lawful_solve-requires-clause-names
-unfolding solve_app
-lawful_solve-requires-clause-names c = record {
-  first = c.in_ok-matches.ensures.matched.texts 0 (named (codes "INSTANCE")) (requires_name refl);
-  second = c.in_ok-matches.ensures.matched.texts 1 (named (codes "OUT")) (requires_name refl);
-  third = c.in_ok-matches.ensures.matched.texts 2 (named (codes "JOURNAL")) (requires_name refl);
-}
-
 pub lawful_solve-requires-clause-options : goal.lawful_solve-requires-clause-options
 unfolding solve_app
-lawful_solve-requires-clause-options c = record {
-  seed = c.in_ok-matches.ensures.matched.numbers 3 seed_option 0 18446744073709551615 (requires_number refl);
-  workers = c.in_ok-matches.ensures.matched.numbers 4 (numbered_option (codes "workers") 1 MAX_WORKERS) 1 MAX_WORKERS (requires_number refl);
-  moves = c.in_ok-matches.ensures.matched.numbers 5 (numbered_option (codes "moves") 0 MAX_MOVES) 0 MAX_MOVES (requires_number refl);
-  heat = c.in_ok-matches.ensures.matched.numbers 6 (numbered_option (codes "heat") 0 MAX_HEAT) 0 MAX_HEAT (requires_number refl);
-  hard = c.in_ok-matches.ensures.matched.numbers 7 (numbered_option (codes "hard") 0 MAX_HARD) 0 MAX_HARD (requires_number refl);
-}
+lawful_solve-requires-clause-options c = has_options c.in_ok-matches.ensures.matched.numbers refl refl refl refl refl
 
 pub lawful_solve-requires-clause-retries : goal.lawful_solve-requires-clause-retries
 unfolding solve_app

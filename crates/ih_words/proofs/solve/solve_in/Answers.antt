@@ -10,6 +10,6 @@ number-most : (o : Option Text) (high : ℕ) → ((t : Text) → o ≡ Some t �
 number-most None high h = omega arith
 number-most (Some t) high h = (h t refl).3
 
-pub options_in-requires-clause-retries : goal.options_in-requires-clause-retries
-options_in-requires-clause-retries c =
-    rw c.optional_u32_of.ensures (number-most (one_of (codes "retries") (rows_of (found_of c.args.matches.now))) MAX_RETRIES c.requires.retries)
+pub search_in-requires-clause-retries : goal.search_in-requires-clause-retries
+search_in-requires-clause-retries c =
+    rw c.optional_u32_of-retries.ensures (number-most (one_of (codes "retries") (rows_of (found_of c.args.matches.now))) MAX_RETRIES c.requires.retries)
