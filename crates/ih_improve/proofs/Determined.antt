@@ -3,7 +3,7 @@ use Rattle.std.proofs.Common.{◌≡◌, ℕ, suc, refl, sym, ap, ◌∙◌, sub
 use Rattle.std.specs.Prelude.{slice_get, Some}
 use Rattle.ih_plan.specs.Timetable.{Timetable}
 use Rattle.ih_improve.specs.Better.{best_of}
-use Rattle.ih_improve.specs.ImproverState.{ImproverState, Leads, led_to, leg_of}
+use Rattle.ih_improve.specs.ImproverState.{ImproverState, Leads, led_to, leg_of, terms_of}
 use Rattle.ih_improve.specs.Laws.{IsDetermined, IsDeterminedByRounds, Lead, LeadOn}
 use Rattle.ih_improve.specs.Legs.{LegState}
 use Rattle.ih_improve.specs.declared.spans.Span.{Span}
@@ -25,7 +25,7 @@ module _ (leaves : LegState → ℕ → Timetable → Type 0) (determined : IsDe
       let same : first.left ≡ second.left =
       same-lists first.left second.left (first.each_worker ∙ sym second.each_worker)
       (λ k x y hx hy. determined (leg_of v s) k x y (first.leaves k x hx) (second.leaves k y hy)) in
-      first.best ∙ (ap (best_of v.instance v.settings.hard v.kept) same ∙ sym second.best)
+      first.best ∙ (ap (best_of (terms_of v) v.kept) same ∙ sym second.best)
 
   pub all-rounds : (v : ImproverState) (ss : List Span) (Ps Qs : List Timetable) → Lead leaves v ss Ps → Lead leaves v ss Qs → Ps ≡ Qs
   all-rounds v [] [] [] first second = refl

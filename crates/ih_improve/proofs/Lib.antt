@@ -1,8 +1,12 @@
 pub mod BetterLemmas
 pub mod Determined
-pub mod WalkerBills
+pub mod FreeWrites
 pub mod FrozenMoves
-pub mod WeightLemmas
+pub mod GivenSettings
+pub mod KeptMoves
+pub mod PinLemmas
+pub mod PinnedMoves
 pub mod RoundLemmas
 pub mod Underway
-pub mod GivenSettings
+pub mod WalkerBills
+pub mod WeightLemmas

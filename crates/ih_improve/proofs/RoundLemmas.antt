@@ -4,18 +4,22 @@ use Rattle.std.specs.Prelude.{All, slice_get, slice_index_or}
 use Rattle.std.proofs.lemmas.List.{map-append, take-append-le, take_all, take_more}
 use Rattle.std.proofs.lemmas.List.Elements.{All-nil, All-cons, All-weaker}
 use Rattle.std.proofs.lemmas.List.Sums.{fold_push}
-use Rattle.ih_tables.specs.declared.bills.Bill.{Bill}
 use Rattle.ih_tables.specs.declared.drafts.Draft.{Draft}
-use Rattle.ih_plan.specs.Timetable.{Timetable, IsPlanOf}
 use Rattle.ih_plan.specs.BillOf.{bill_of}
+use Rattle.ih_plan.specs.Timetable.{Timetable, IsPlanOf}
+use Rattle.ih_improve.specs.declared.comparing.Standing.{Standing}
+use Rattle.ih_improve.specs.declared.settings.Settings.{Settings}
 use Rattle.ih_improve.specs.declared.spans.Span.{Span}
 use Rattle.ih_improve.specs.declared.workers.ImproveWorker.{ImproveWorker}
-use Rattle.ih_improve.specs.Better.{best_of, better_of}
-use Rattle.ih_improve.specs.Following.{IsNoDearer, MayFollow, MayStand}
-use Rattle.ih_improve.specs.ImproverState.{ImproverState, Leads, MayGoOn, led_to, leg_of}
+use Rattle.ih_improve.specs.Better.{best_of, better_of, of_bill, standing_of}
+use Rattle.ih_improve.specs.Following.{IsNoWorse, MayFollow, MayStand}
+use Rattle.ih_improve.specs.ImproverState.{ImproverState, Leads, MayGoOn, led_to, leg_of, terms_of}
 use Rattle.ih_improve.specs.Keeping.{IsKeeping, IsOf, StandsOn, StandsWell, best_met}
 use Rattle.ih_improve.specs.Legs.{IsLeg, Leaves}
-use Rattle.ih_improve.proofs.BetterLemmas.{best-follows, follows-through, no_dearer-same}
+use Rattle.ih_improve.specs.Pinned.{PinsState}
+use Rattle.ih_improve.specs.Settings.{IsLawful}
+use Rattle.ih_improve.specs.Terms.{Terms}
+use Rattle.ih_improve.proofs.BetterLemmas.{best-follows, follows-through, no_worse-same, none-counted}
 
 -- what holds at each place holds of all
 pub all-each : {A : Type 0} (P : A → Type 0) (xs : List A) → ((k : ℕ) (d : A) → k < length xs → P (slice_index_or xs k d)) → All P xs
@@ -35,52 +39,71 @@ written-back n new old len all =
     take-append-le n new (drop (length new) old) (omega (arith, len, all)) ∙ take_all n new (omega (arith, len, all))
 
 -- one worker more
-pub best-more : (I : Draft) (hard : ℕ) (P : Timetable) (ws : List ImproveWorker) (i : ℕ) (x : ImproveWorker) → i < length ws → x ≡ get_or ws i x
-    → best_of I hard P (map best_met (take (i + 1) ws)) ≡ better_of I hard (best_of I hard P (map best_met (take i ws))) (best_met x)
-best-more I hard P ws i x h is =
-    ap (λ vs. best_of I hard P (map best_met vs)) (take_more ws i x h ∙ ap (λ w. take i ws ++ w ∷ []) (sym is))
-    ∙ (ap (best_of I hard P) (map-append best_met (take i ws) (x ∷ []))
-    ∙ fold_push (better_of I hard) P (map best_met (take i ws)) (best_met x))
+pub best-more : (t : Terms) (P : Timetable) (ws : List ImproveWorker) (i : ℕ) (x : ImproveWorker) → i < length ws → x ≡ get_or ws i x
+    → best_of t P (map best_met (take (i + 1) ws)) ≡ better_of t (best_of t P (map best_met (take i ws))) (best_met x)
+best-more t P ws i x h is =
+    ap (λ vs. best_of t P (map best_met vs)) (take_more ws i x h ∙ ap (λ w. take i ws ++ w ∷ []) (sym is))
+    ∙ (ap (best_of t P) (map-append best_met (take i ws) (x ∷ []))
+    ∙ fold_push (better_of t) P (map best_met (take i ws)) (best_met x))
 
 -- the start may be stood on
-pub start-stands : (I : Draft) (start : Timetable) (freeze : ℕ) → IsPlanOf I start → MayStand I start freeze start
-start-stands I start freeze plan = record {
+pub start-stands : (t : Terms) → IsPlanOf t.instance t.start → MayStand t t.start
+start-stands t plan = record {
   plan = plan;
   frozen = record { admitted = λ p h. refl; others = λ p h. h; nurses = λ r k rh kh before. refl };
+  pinned = record { stays = λ p h. refl; nurses = λ r k rh kh on. refl };
 }
 
+-- and may take its own place
+pub start-follows : (t : Terms) → IsPlanOf t.instance t.start → MayFollow t t.start t.start
+start-follows t plan = record { stands = start-stands t plan; no_worse = no_worse-same t t.start }
+
 -- so may all workers that stand on it
-pub all-stand : (I : Draft) (start : Timetable) (freeze : ℕ) (ws : List ImproveWorker) → IsPlanOf I start → All (StandsOn start) ws
-    → All (StandsWell I start freeze) ws
-all-stand I start freeze ws plan =
-    All-weaker (StandsOn start) (StandsWell I start freeze)
-    (λ w is. subst (MayStand I start freeze) (sym is) (start-stands I start freeze plan)) ws
+pub all-stand : (t : Terms) (ws : List ImproveWorker) → IsPlanOf t.instance t.start → All (StandsOn t.start) ws → All (StandsWell t) ws
+all-stand t ws plan =
+    All-weaker (StandsOn t.start) (StandsWell t) (λ w is. subst (MayStand t) (sym is) (start-stands t plan)) ws
+
+-- a search that begins keeps what it has to
+pub begun-keeping : (I : Draft) (start : Timetable) (pins : PinsState) (s : Settings) (standing : Standing) (ws : List ImproveWorker) → IsPlanOf I start → IsLawful s
+    → standing ≡ of_bill (bill_of I start) → length ws ≡ s.workers → All (IsOf I) ws → All (StandsOn start) ws → (S K : Timetable) → S ≡ start → K ≡ start
+    → IsKeeping (record { instance = I; start = S; pins = pins; settings = s; rounds = 0; attempts = 0; kept = K }) standing ws
+begun-keeping I start pins s standing ws plan lawful is count of stands S K first kept =
+    let t : Terms = record { instance = I; start = start; pins = pins; settings = s } in
+    let begun : IsKeeping (record { instance = I; start = start; pins = pins; settings = s; rounds = 0; attempts = 0; kept = start }) standing ws = record {
+      sound = record { lawful = lawful; rounds = omega arith; attempts = omega arith; start = plan; kept = start-follows t plan };
+      standing_is = is ∙ ap (λ (n : ℕ). record { bill = bill_of I start; changes = n }) (sym (none-counted t));
+      count = count;
+      instance = of;
+      stands = all-stand t ws plan stands;
+    } in
+    subst (λ (P : Timetable). IsKeeping (record { instance = I; start = P; pins = pins; settings = s; rounds = 0; attempts = 0; kept = K }) standing ws) (sym first)
+    (subst (λ (P : Timetable). IsKeeping (record { instance = I; start = start; pins = pins; settings = s; rounds = 0; attempts = 0; kept = P }) standing ws) (sym kept) begun)
 
 -- what a round begins with
-pub begins : (v : ImproverState) (s : Span) (bill : Bill) (ws : List ImproveWorker) → IsKeeping v bill ws → IsLeg (leg_of v s) bill
-begins v s bill ws keeping = record {
+pub begins : (v : ImproverState) (s : Span) (standing : Standing) (ws : List ImproveWorker) → IsKeeping v standing ws → IsLeg (leg_of v s) standing
+begins v s standing ws keeping = record {
   lawful = keeping.sound.lawful;
   start = keeping.sound.start;
   from = keeping.sound.kept;
-  bill_is = keeping.bill_is;
+  standing_is = keeping.standing_is;
 }
 
-module _ (v : ImproverState) (s : Span) (bill : Bill) (old new : List ImproveWorker) (keeping : IsKeeping v bill old) (len : length new ≡ length old)
+module _ (v : ImproverState) (s : Span) (standing : Standing) (old new : List ImproveWorker) (keeping : IsKeeping v standing old) (len : length new ≡ length old)
     (same : (k : ℕ) (d : ImproveWorker) → k < length old → (slice_index_or new k d).walker.instance ≡ v.instance)
-    (stands : (k : ℕ) (d : ImproveWorker) → k < length old → StandsWell v.instance v.start v.settings.freeze (slice_index_or new k d))
+    (stands : (k : ℕ) (d : ImproveWorker) → k < length old → StandsWell (terms_of v) (slice_index_or new k d))
     (left : (k : ℕ) (d : ImproveWorker) → k < length old → Leaves (leg_of v s) k (best_met (slice_index_or new k d))) where
   pub all-of : All (IsOf v.instance) new
   all-of = all-each (IsOf v.instance) new (λ k d h. same k d (omega (arith, h, len)))
 
-  all-well : All (StandsWell v.instance v.start v.settings.freeze) new
-  all-well = all-each (StandsWell v.instance v.start v.settings.freeze) new (λ k d h. stands k d (omega (arith, h, len)))
+  all-well : All (StandsWell (terms_of v)) new
+  all-well = all-each (StandsWell (terms_of v)) new (λ k d h. stands k d (omega (arith, h, len)))
 
   leaves-each : (w : ℕ) (Q : Timetable) → slice_get (map best_met new) w ≡ Some Q → Leaves (leg_of v s) w Q
   leaves-each w Q there =
       let x = at-map best_met new w Q there in
       subst (Leaves (leg_of v s) w) (ap best_met x.2 ∙ x.3) (left w x.0 (omega (arith, x.1, len)))
 
-  pub leads : (P : Timetable) → P ≡ best_of v.instance v.settings.hard v.kept (map best_met new) → Leads Leaves v s P
+  pub leads : (P : Timetable) → P ≡ best_of (terms_of v) v.kept (map best_met new) → Leads Leaves v s P
   leads P best = record {
     left = map best_met new;
     each_worker = length-best new ∙ (len ∙ keeping.count);
@@ -92,27 +115,26 @@ module _ (v : ImproverState) (s : Span) (bill : Bill) (old new : List ImproveWor
       length-best [] = refl
       length-best (w ∷ ws) = let rest = length-best ws in omega (arith, rest)
 
-  follows : (P : Timetable) → P ≡ best_of v.instance v.settings.hard v.kept (map best_met new) → MayFollow v.instance v.start v.settings.freeze v.kept P
+  follows : (P : Timetable) → P ≡ best_of (terms_of v) v.kept (map best_met new) → MayFollow (terms_of v) v.kept P
   follows P best =
-      let kept = keeping.sound.kept in
-      subst (MayFollow v.instance v.start v.settings.freeze v.kept) (sym best)
-      (best-follows v.instance v.settings.hard v.start v.settings.freeze v.kept v.kept (map best_met new)
-      (record { plan = kept.plan; frozen = kept.frozen; no_dearer = no_dearer-same v.instance v.kept }) leaves-each)
+      subst (MayFollow (terms_of v) v.kept) (sym best)
+      (best-follows (terms_of v) v.kept v.kept (map best_met new)
+      (record { stands = keeping.sound.kept.stands; no_worse = no_worse-same (terms_of v) v.kept }) leaves-each)
 
-  pub no_dearer : (P : Timetable) → P ≡ best_of v.instance v.settings.hard v.kept (map best_met new) → IsNoDearer v.instance v.kept P
-  no_dearer P best = (follows P best).no_dearer
+  pub no_worse : (P : Timetable) → P ≡ best_of (terms_of v) v.kept (map best_met new) → IsNoWorse (terms_of v) v.kept P
+  no_worse P best = (follows P best).no_worse
 
-  pub keeps : (P : Timetable) (more : Bill) → MayGoOn v s → P ≡ best_of v.instance v.settings.hard v.kept (map best_met new)
-      → more ≡ bill_of v.instance P → IsKeeping (led_to v s P) more new
-  keeps P more may best billed = record {
+  pub keeps : (P : Timetable) (more : Standing) → MayGoOn v s → P ≡ best_of (terms_of v) v.kept (map best_met new)
+      → more ≡ standing_of (terms_of v) P → IsKeeping (led_to v s P) more new
+  keeps P more may best judged = record {
     sound = record {
       lawful = keeping.sound.lawful;
       rounds = let rounds = may.rounds in omega (arith, rounds);
       attempts = may.attempts;
       start = keeping.sound.start;
-      kept = follows-through v.instance v.start v.settings.freeze v.kept P keeping.sound.kept (follows P best);
+      kept = follows-through (terms_of v) v.start v.kept P keeping.sound.kept (follows P best);
     };
-    bill_is = billed;
+    standing_is = judged;
     count = len ∙ keeping.count;
     instance = all-of;
     stands = all-well;

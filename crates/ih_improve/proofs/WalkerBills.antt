@@ -1,6 +1,6 @@
 -- A worker on its way: one attempt more.
-use Rattle.std.proofs.Common.{◌≡◌, ℕ, ◌^◌, refl, ap, ◌∙◌, Bool, true, false, List}
-use Rattle.std.specs.Prelude.{if◌then◌else◌}
+use Rattle.std.proofs.Common.{◌≡◌, ◌^◌, refl, ◌∙◌, inl, inr, Bool, true, false, List}
+use Rattle.std.specs.Prelude.{◌⊎◌, if◌then◌else◌}
 use Rattle.ih_tables.specs.declared.bills.Bill.{Bill}
 use Rattle.ih_tables.specs.declared.drafts.Draft.{Draft}
 use Rattle.ih_tables.specs.Bills.{IsWithin, add_bills}
@@ -13,7 +13,6 @@ use Rattle.ih_plan.specs.BillOf.{bill_of, change_of_bill}
 use Rattle.ih_plan.proofs.BillBounds.{bill-within, change-within}
 use Rattle.ih_plan.proofs.BillSums.{add-change, sum-within}
 use Rattle.ih_costs.specs.LedgersState.{LedgersState}
-use Rattle.ih_improve.specs.Better.{better_of, is_better}
 use Rattle.ih_improve.specs.WalkerState.{AreBills, best_at, left_best_with}
 
 -- the bill after a change whose price is known
@@ -37,7 +36,7 @@ pub now-within : (I : Draft) (l : LedgersState) (left_best : Timetable) (here : 
 now-within I l left_best here bill best valid are = rw are.bill_is (bill-within I l.plan valid are.now)
 
 -- moves in a row with a price, made where the ledgers stand
-module _ (I : Draft) (valid : IsValid I) (hard : ℕ) (l : LedgersState) (left_best : Timetable) (here : Bool) (bill best : Bill) (are : AreBills I l left_best here bill best)
+module _ (I : Draft) (valid : IsValid I) (l : LedgersState) (left_best : Timetable) (here : Bool) (bill best : Bill) (are : AreBills I l left_best here bill best)
     (ms : List Move) (inside : AreMoves I ms) (price : Bill) (priced : price ≡ price_of_all I l.plan ms) where
   next-plan : IsPlanOf I (after_all I l.plan ms)
   next-plan = after_all-plan I l.plan ms are.now inside
@@ -52,19 +51,18 @@ module _ (I : Draft) (valid : IsValid I) (hard : ℕ) (l : LedgersState) (left_b
     pub next-within : IsWithin (10 ^ 11) next
     next-within = rw next-is (bill-within I (after_all I l.plan ms) valid next-plan)
 
-    module _ (better : Bool) (judged : better ≡ is_better hard I.weights next best) where
-      pub best-after : best_at better (after_all I l.plan ms) (left_best_with here better l.plan left_best) ≡ better_of I hard (best_at here l.plan left_best) (after_all I l.plan ms)
-      unfolding better_of
-      best-after =
-          by_case here better
-          ∙ ap (λ (t : Bool). if t then after_all I l.plan ms else best_at here l.plan left_best)
-          (judged ∙ (ap (λ (b : Bill). is_better hard I.weights b best) next-is ∙ ap (is_better hard I.weights (bill_of I (after_all I l.plan ms))) are.best_is))
+    module _ (better : Bool) where
+      pub best-after : let A = after_all I l.plan ms in
+          let next_best = best_at better A (left_best_with here better l.plan left_best) in
+          (next_best ≡ best_at here l.plan left_best) ⊎ (next_best ≡ A)
+      best-after = by_case here better
         where
-          by_case : (s t : Bool) → best_at t (after_all I l.plan ms) (left_best_with s t l.plan left_best) ≡ (if t then after_all I l.plan ms else best_at s l.plan left_best)
-          by_case true true = refl
-          by_case false true = refl
-          by_case true false = refl
-          by_case false false = refl
+          by_case : (s t : Bool) → (best_at t (after_all I l.plan ms) (left_best_with s t l.plan left_best) ≡ best_at s l.plan left_best)
+              ⊎ (best_at t (after_all I l.plan ms) (left_best_with s t l.plan left_best) ≡ after_all I l.plan ms)
+          by_case true true = inr refl
+          by_case false true = inr refl
+          by_case true false = inl refl
+          by_case false false = inl refl
 
       pub bills-after : (m : LedgersState) → m ≡ record l { plan = after_all I l.plan ms } → AreBills I m (left_best_with here better l.plan left_best) better next (if better then next else best)
       bills-after m is = rw is (record {

@@ -8,26 +8,33 @@ use Rattle.ih_improve.specs.declared.spans.Span.{Span}
 use Rattle.ih_improve.specs.Better.{best_of}
 use Rattle.ih_improve.specs.Following.{MayFollow}
 use Rattle.ih_improve.specs.Legs.{LegState}
+use Rattle.ih_improve.specs.Pinned.{PinsState}
 use Rattle.ih_improve.specs.Settings.{IsLawful}
+use Rattle.ih_improve.specs.Terms.{Terms}
 
--- A search over a start, how many rounds are over, how many attempts each worker made in them, and the best timetable so
--- far.
+-- A search over a start, some of whose choices are pinned; how many rounds are over, how many attempts each worker made in
+-- them, and the best timetable so far.
 pub record ImproverState : Type 0 where
   pub instance : Draft
   pub start : Timetable
+  pub pins : PinsState
   pub settings : Settings
   pub rounds : ℕ
   pub attempts : ℕ
   pub kept : Timetable
 
--- Between rounds: the best so far fits the instance, keeps the start's choices before the freeze day, and is no dearer
--- than the start.
+-- what it goes by
+abbrev pub terms_of : ImproverState → Terms
+terms_of v = record { instance = v.instance; start = v.start; pins = v.pins; settings = v.settings }
+
+-- Between rounds: the best so far fits the instance, keeps the start's choices that are before the freeze day or pinned,
+-- and is no worse than the start.
 pub record IsSound (v : ImproverState) : Type 0 where
   pub lawful : IsLawful v.settings
   pub rounds : v.rounds ≤ MAX_ROUNDS
   pub attempts : v.attempts ≤ MAX_ATTEMPTS
   pub start : IsPlanOf v.instance v.start
-  pub kept : MayFollow v.instance v.start v.settings.freeze v.start v.kept
+  pub kept : MayFollow (terms_of v) v.start v.kept
 
 -- a round more with this span is within the limits
 pub record MayGoOn (v : ImproverState) (s : Span) : Type 0 where
@@ -39,6 +46,7 @@ abbrev pub leg_of : ImproverState → Span → LegState
 leg_of v s = record {
   instance = v.instance;
   start = v.start;
+  pins = v.pins;
   settings = v.settings;
   round = v.rounds;
   span = s;
@@ -56,4 +64,4 @@ pub record Leads (may_leave : LegState → ℕ → Timetable → Type 0) (v : Im
     pub left : List Timetable
     pub each_worker : length left ≡ v.settings.workers
     pub leaves : (w : ℕ) (Q : Timetable) → slice_get left w ≡ Some Q → may_leave (leg_of v s) w Q
-    pub best : P ≡ best_of v.instance v.settings.hard v.kept left
+    pub best : P ≡ best_of (terms_of v) v.kept left

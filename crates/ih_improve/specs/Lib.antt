@@ -5,7 +5,10 @@ pub mod Frozen
 pub mod Given
 pub mod ImproverState
 pub mod Keeping
+pub mod Kept
 pub mod Laws
 pub mod Legs
+pub mod Pinned
 pub mod Settings
+pub mod Terms
 pub mod WalkerState

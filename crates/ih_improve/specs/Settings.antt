@@ -2,6 +2,7 @@
 use Rattle.std.specs.Prelude.{◌≤◌}
 use Rattle.ih_plan.specs.declared.limits.TheConstants.{MAX_HARD, MAX_HEAT, MAX_WORKERS}
 use Rattle.ih_improve.specs.declared.settings.Settings.{Settings}
+use Rattle.ih_improve.specs.declared.settings.TheConstants.{MAX_KEEP}
 
 -- each setting is within its limits; the seed and the freeze day have none
 pub record IsLawful (s : Settings) : Type 0 where
@@ -10,3 +11,4 @@ pub record IsLawful (s : Settings) : Type 0 where
   pub hot : s.hot ≤ MAX_HEAT
   pub cold : s.cold ≤ s.hot
   pub hard : s.hard ≤ MAX_HARD
+  pub keep : s.keep ≤ MAX_KEEP

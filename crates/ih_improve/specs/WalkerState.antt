@@ -4,10 +4,9 @@ use Rattle.ih_tables.specs.declared.bills.Bill.{Bill}
 use Rattle.ih_tables.specs.declared.drafts.Draft.{Draft}
 use Rattle.ih_plan.specs.Timetable.{Timetable, IsPlanOf}
 use Rattle.ih_plan.specs.BillOf.{bill_of}
-use Rattle.ih_plan.specs.Frozen.{KeepsFrozen}
 use Rattle.ih_costs.specs.LedgersState.{LedgersState}
-use Rattle.ih_improve.specs.Following.{MayFollow}
-use Rattle.ih_improve.specs.Legs.{LegState}
+use Rattle.ih_improve.specs.Following.{MayStand}
+use Rattle.ih_improve.specs.Legs.{LegState, terms_of_leg}
 
 -- Where a worker stands, and the best timetable that it has met.
 pub record WalkerState : Type 0 where
@@ -33,10 +32,8 @@ pub record AreBills (I : Draft) (l : LedgersState) (left_best : Timetable) (stan
   pub bill_is : bill ≡ bill_of I l.plan
   pub best_is : best_bill ≡ bill_of I (best_at stands_on_best l.plan left_best)
 
--- On its way in a round a worker stands on a timetable of the instance that keeps the start's choices before the freeze
--- day, and its best may take the place of the timetable from which it went on.
+-- on its way in a round a worker stands where it may, and so it does on its best
 pub record IsUnderway (s : LegState) (w : WalkerState) : Type 0 where
   pub instance : w.instance ≡ s.instance
-  pub now : IsPlanOf s.instance w.now
-  pub frozen : KeepsFrozen s.instance s.start s.settings.freeze w.now
-  pub best : MayFollow s.instance s.start s.settings.freeze s.from w.best
+  pub now : MayStand (terms_of_leg s) w.now
+  pub best : MayStand (terms_of_leg s) w.best

@@ -4,6 +4,7 @@ ghost use Rattle.std.specs.Prelude.{◌≡◌, ◌≤◌, if◌then◌else◌, l
 ghost use Rattle.ih_improve.specs.Defaults.{AreDefaults, IsGreatest, IsMiddle, count_above, count_up_to, has_half};
 ghost use Rattle.ih_improve.specs.Defaults.{weights_of};
 
+use crate::settings::MAX_KEEP;
 use ih_plan::{MAX_HARD, MAX_HEAT};
 use ih_tables::Instance;
 
@@ -18,6 +19,8 @@ pub struct Defaults {
     /// The weight of a broken hard rule: twice the greatest weight, but at least 1000. So a unit of a broken rule
     /// weighs more than one of any cost.
     pub hard: u32,
+    /// The points of a change: twice the middle weight.
+    pub keep: u32,
 }
 
 // Writes each number without its sign.
@@ -138,12 +141,14 @@ impl Defaults {
         ensures hot { result.hot ≤ MAX_HEAT }
         ensures cold { result.cold ≤ result.hot }
         ensures hard { result.hard ≤ MAX_HARD }
+        ensures keep { result.keep ≤ MAX_KEEP }
     {
         let middle = middle_weight(inst);
         Defaults {
             hot: 2 * middle,
             cold: (middle + 5) / 10,
             hard: (2 * greatest_weight(inst)).max(1000),
+            keep: 2 * middle,
         }
     }
 }

@@ -1,5 +1,8 @@
 //! The settings of a search, of which some may be left out.
 
+ghost use Rattle.std.specs.Prelude.{◌≡◌};
+ghost use Rattle.ih_improve.specs.Given.{usual_hot};
+
 use crate::defaults::Defaults;
 use crate::settings::Settings;
 use ih_plan::{MAX_HARD, MAX_HEAT, MAX_WORKERS};
@@ -20,14 +23,23 @@ pub struct Given {
     pub hard: Option<u32>,
     /// The first day whose choices may change.
     pub freeze: u32,
+    /// How many points each change against the start weighs. Without it the weights decide.
+    pub keep: Option<u32>,
+}
+
+// The heat of the first attempt by the weights: a search that weighs changes stays cold, and so near the start.
+fn usual_hot(keep: u32, usual: &Defaults) -> u32
+    ensures { result ≡ usual_hot keep usual.now }
+{
+    if keep == 0 { usual.hot } else { usual.cold }
 }
 
 impl Given {
     ghost use Rattle.std.specs.Prelude.{◌≡◌, ◌≤◌};
     ghost use Rattle.ih_improve.specs.{Given.AreSettingsOf, Given.widest, Settings.IsLawful};
 
-    /// These settings, with the most workers, the widest heats and the greatest weight of a broken rule where none are
-    /// given.
+    /// These settings, with the most workers, the widest heats, the greatest weight of a broken rule and none of a change
+    /// where none are given.
     pub fn widest(&self) -> Settings
         ensures { result ≡ widest self.now }
     {
@@ -38,11 +50,13 @@ impl Given {
             cold: self.cold.unwrap_or(0),
             hard: self.hard.unwrap_or(MAX_HARD),
             freeze: self.freeze,
+            keep: self.keep.unwrap_or(0),
         }
     }
 
     /// The settings of a search. What isn't given comes from the weights of the instance. If one heat is given, the other
-    /// lies on the right side of it. Where no number of workers is given, there are as many as processors.
+    /// lies on the right side of it. A search that weighs changes stays cold where no heat is given. Where no number of
+    /// workers is given, there are as many as processors.
     pub fn settings(&self, inst: &Instance, processors: u32) -> Settings
         requires lawful { IsLawful (widest self.now) }
         requires some { 1 ≤ processors }
@@ -50,9 +64,11 @@ impl Given {
         ensures { AreSettingsOf inst.now.draft self.now processors result }
     {
         let usual = Defaults::by_weights(inst);
+        let keep = self.keep.unwrap_or(usual.keep);
+        let warm = usual_hot(keep, &usual);
         let hot = self
             .hot
-            .unwrap_or(usual.hot.max(self.cold.unwrap_or(usual.cold)));
+            .unwrap_or(warm.max(self.cold.unwrap_or(usual.cold)));
         let cold = self
             .cold
             .unwrap_or(usual.cold.min(self.hot.unwrap_or(usual.hot)));
@@ -63,6 +79,7 @@ impl Given {
             cold,
             hard: self.hard.unwrap_or(usual.hard),
             freeze: self.freeze,
+            keep,
         }
     }
 }

@@ -70,10 +70,10 @@ fn heat_of_ward(inst: &Instance, worker_no: usize) -> u32 {
 }
 
 // The heat at a worker's first attempt. Where both heats are those of the weights it is that of the ward, if that is
-// more.
+// more; but where changes count the search stays near the start.
 fn first_heat(inst: &Instance, settings: &Settings, worker_no: usize) -> u32 {
     let usual = Defaults::by_weights(inst);
-    if settings.hot == usual.hot && settings.cold == usual.cold {
+    if settings.keep == 0 && settings.hot == usual.hot && settings.cold == usual.cold {
         settings.hot.max(heat_of_ward(inst, worker_no))
     } else {
         settings.hot
@@ -131,7 +131,7 @@ impl Pace {
     /// The pace of a worker in a round.
     pub(crate) fn of_round(leg: &Leg<'_>, worker_no: usize) -> Pace {
         let (inst, settings, span) = (leg.instance(), leg.settings(), leg.span());
-        let is_found = leg.bill().feasible();
+        let is_found = leg.standing().bill.feasible();
         Pace {
             cooling: cooling_of(inst, settings, worker_no, span, span.from, is_found),
             hard: hard_of(settings, leg.round(), is_found),

@@ -1,22 +1,25 @@
 //! What a round begins with.
 
+use crate::comparing::{Measure, Standing};
+use crate::pins::Pins;
 use crate::settings::Settings;
 use crate::spans::Span;
 use ih_plan::Plan;
-use ih_tables::{Bill, Instance};
+use ih_tables::Instance;
 use std::marker::Model;
 
-/// All that a worker goes by in a round, beside its own number: the settings, which round it is, what that is to do, and
-/// the plan from which it goes on, with its bill.
+/// All that a worker goes by in a round, beside its own number: the settings, what is pinned, which round it is, what that
+/// is to do, and the plan from which it goes on, with how that stands.
 #[derive(Drop)]
 pub struct Leg<'b> {
     inst: &'b Instance,
     start: &'b Plan,
+    pins: &'b Pins,
     settings: Settings,
     round: u32,
     span: Span,
     from: &'b Plan,
-    bill: Bill,
+    standing: Standing,
 }
 
 impl<'b> Model for Leg<'b> {
@@ -27,6 +30,7 @@ impl<'b> Model for Leg<'b> {
     ghost view = { λ l. record {
       instance = l.inst.now.draft;
       start = l.start.now;
+      pins = l.pins.now;
       settings = l.settings;
       round = l.round;
       span = l.span;
@@ -37,39 +41,43 @@ impl<'b> Model for Leg<'b> {
         let s : LegState = record {
           instance = l.inst.now.draft;
           start = l.start.now;
+          pins = l.pins.now;
           settings = l.settings;
           round = l.round;
           span = l.span;
           from = l.from.now;
-        } in IsLeg s l.bill };
+        } in IsLeg s l.standing };
 }
 
 impl<'b> Leg<'b> {
     ghost use Rattle.std.specs.Prelude.{◌≡◌};
-    ghost use Rattle.ih_plan.specs.BillOf.{bill_of};
-    ghost use Rattle.ih_improve.specs.Legs.{IsLeg, LegState};
+    ghost use Rattle.ih_improve.specs.Better.{standing_of};
+    ghost use Rattle.ih_improve.specs.Legs.{IsLeg, LegState, terms_of_leg};
 
     /// What a round of a search begins with.
     pub(crate) fn new(
         inst: &'b Instance,
         start: &'b Plan,
+        pins: &'b Pins,
         settings: &Settings,
         round: u32,
         span: &Span,
         from: &'b Plan,
-        bill: &Bill,
+        standing: &Standing,
     ) -> Leg<'b>
         requires { let s : LegState = record {
           instance = inst.now.draft;
           start = start.now;
+          pins = pins.now;
           settings = settings.now;
           round = round;
           span = span.now;
           from = from.now;
-        } in IsLeg s bill.now }
+        } in IsLeg s standing.now }
         ensures { result ≡ record {
           instance = inst.entry.now.draft;
           start = start.entry.now;
+          pins = pins.entry.now;
           settings = settings.now;
           round = round;
           span = span.now;
@@ -79,11 +87,12 @@ impl<'b> Leg<'b> {
         Leg {
             inst,
             start,
+            pins,
             settings: *settings,
             round,
             span: *span,
             from,
-            bill: *bill,
+            standing: *standing,
         }
     }
 
@@ -99,6 +108,13 @@ impl<'b> Leg<'b> {
         ensures { result.now ≡ self.now.start }
     {
         self.start
+    }
+
+    /// Which of its choices are pinned.
+    pub(crate) fn pins(&self) -> &Pins
+        ensures { result.now ≡ self.now.pins }
+    {
+        self.pins
     }
 
     /// The search's settings.
@@ -129,17 +145,29 @@ impl<'b> Leg<'b> {
         self.from
     }
 
-    /// The bill of the timetable from which the round goes on.
-    pub(crate) fn bill(&self) -> &Bill
-        ensures { result.now ≡ bill_of self.now.instance self.now.from }
+    /// What the timetable from which the round goes on is judged by.
+    pub(crate) fn standing(&self) -> &Standing
+        ensures { result.now ≡ standing_of (terms_of_leg self.now) self.now.from }
     {
-        &self.bill
+        &self.standing
+    }
+
+    /// By what timetables are judged.
+    pub(crate) fn measure(&self) -> Measure<'_>
+        ensures { result ≡ terms_of_leg self.now }
+    {
+        Measure {
+            inst: self.inst,
+            start: self.start,
+            pins: self.pins,
+            settings: &self.settings,
+        }
     }
 
     /// A fact for the caller's proof: the timetables fit the instance, and the settings are lawful.
     pub(crate) fn know_leg(&self)
-        ensures { IsLeg self.now (bill_of self.now.instance self.now.from) }
+        ensures { IsLeg self.now (standing_of (terms_of_leg self.now) self.now.from) }
     {
-        let _ = &self.bill;
+        let _ = &self.standing;
     }
 }

@@ -4,20 +4,22 @@
 mod accepting;
 mod comparing;
 mod defaults;
-mod freezing;
+mod distances;
 mod given;
 mod heats;
 mod improver;
+mod keeping;
 mod laws;
 mod legs;
 mod logarithms;
+mod pins;
 mod rounds;
 mod settings;
 mod spans;
 mod walkers;
 mod workers;
 
-pub use comparing::is_better;
+pub use comparing::{Standing, is_better};
 pub use given::Given;
 pub use improver::Improver;
 pub use laws::{
@@ -25,6 +27,7 @@ pub use laws::{
     workers_that_go_on_make_determined_rounds,
 };
 pub use legs::Leg;
+pub use pins::Pins;
 pub use rounds::Walks;
-pub use settings::{MAX_ATTEMPTS, MAX_ROUNDS, Settings};
+pub use settings::{MAX_ATTEMPTS, MAX_KEEP, MAX_ROUNDS, Settings};
 pub use spans::Span;

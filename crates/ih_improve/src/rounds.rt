@@ -1,7 +1,7 @@
 //! One round: all workers side by side.
 
 ghost use Rattle.std.specs.Prelude.{◌≡◌, ◌<◌, ℕ, All, length, slice_index_or};
-ghost use Rattle.ih_improve.specs.Following.{MayStand};
+ghost use Rattle.ih_improve.specs.{Following.MayStand, Legs.terms_of_leg};
 
 use crate::legs::Leg;
 use ih_plan::MAX_WORKERS;
@@ -15,7 +15,7 @@ pub trait Walks {
     ghost use Rattle.std.specs.Prelude.{◌≡◌, ◌<◌, ℕ};
     ghost use Rattle.ih_tables.specs.declared.drafts.Draft.{Draft};
     ghost use Rattle.ih_plan.specs.Timetable.{Timetable};
-    ghost use Rattle.ih_improve.specs.{Following.MayStand, Legs.LegState};
+    ghost use Rattle.ih_improve.specs.{Following.MayStand, Legs.LegState, Legs.terms_of_leg};
 
     /// The instance on which it works.
     ghost instance: { Self → Draft };
@@ -33,9 +33,9 @@ pub trait Walks {
     fn walk(&mut self, leg: &Leg<'_>, worker_no: usize)
         requires instance { instance self.old ≡ leg.now.instance }
         requires number { worker_no < leg.now.settings.workers }
-        requires stands { MayStand leg.now.instance leg.now.start leg.now.settings.freeze (stands self.old) }
+        requires stands { MayStand (terms_of_leg leg.now) (stands self.old) }
         ensures same { instance self.new ≡ instance self.old }
-        ensures stands { MayStand leg.now.instance leg.now.start leg.now.settings.freeze (stands self.new) }
+        ensures stands { MayStand (terms_of_leg leg.now) (stands self.new) }
         ensures left { leaves leg.now worker_no (best self.new) };
 }
 
@@ -44,11 +44,11 @@ pub trait Walks {
 pub(crate) fn walk_all<W: Walks + Send, R: Threads + Sync>(rt: &R, leg: &Leg<'_>, workers: &mut [W])
     requires instance { All (λ w. W.instance w ≡ leg.now.instance) workers.old }
     requires count { length workers.old ≡ leg.now.settings.workers }
-    requires stands { All (λ w. MayStand leg.now.instance leg.now.start leg.now.settings.freeze (W.stands w)) workers.old }
+    requires stands { All (λ w. MayStand (terms_of_leg leg.now) (W.stands w)) workers.old }
     ensures same { (i : ℕ) (d : W) → i < length workers.old
         → W.instance (slice_index_or workers.new i d) ≡ leg.now.instance }
     ensures stands { (i : ℕ) (d : W) → i < length workers.old
-        → MayStand leg.now.instance leg.now.start leg.now.settings.freeze
+        → MayStand (terms_of_leg leg.now)
         (W.stands (slice_index_or workers.new i d)) }
     ensures left { (i : ℕ) (d : W) → i < length workers.old
         → W.leaves leg.now i (W.best (slice_index_or workers.new i d)) }

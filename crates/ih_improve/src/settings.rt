@@ -6,6 +6,8 @@ use ih_plan::{MAX_HARD, MAX_HEAT, MAX_WORKERS};
 pub const MAX_ATTEMPTS: u64 = 100_000_000_000_000_000;
 /// The most rounds.
 pub const MAX_ROUNDS: u32 = 1_000_000;
+/// The most points of a change.
+pub const MAX_KEEP: u32 = 1_000_000;
 
 /// What a search is asked to do. The most workers, the highest heat and the highest weight of a broken rule are
 /// `MAX_WORKERS`, `MAX_HEAT` and `MAX_HARD` of `ih_plan`.
@@ -23,6 +25,8 @@ pub struct Settings {
     pub hard: u32,
     /// The first day whose choices may change.
     pub freeze: u32,
+    /// How many points each change against the start weighs, in units of the score.
+    pub keep: u32,
 }
 
 impl Settings {
@@ -38,5 +42,6 @@ impl Settings {
             && self.hot <= MAX_HEAT
             && self.cold <= self.hot
             && self.hard <= MAX_HARD
+            && self.keep <= MAX_KEEP
     }
 }

@@ -1,13 +1,15 @@
 //! Where a worker stands, and the best that it has met.
 
-ghost use Rattle.std.specs.Prelude.{◌≡◌, ◌≤◌, ◌^◌, IfOk, if◌then◌else◌};
+ghost use Rattle.std.specs.Prelude.{◌≡◌, ◌≤◌, ◌^◌, ◌⊎◌, IfOk, if◌then◌else◌};
 ghost use Rattle.ih_tables.specs.Bills.{IsWithin};
 ghost use Rattle.ih_plan.specs.Timetable.{IsPlanOf};
 ghost use Rattle.ih_plan.specs.BillOf.{bill_of};
 ghost use Rattle.ih_plan.specs.Series.{AreMoves, after_all, price_of_all};
-ghost use Rattle.ih_improve.specs.{Better.better_of, WalkerState.left_best_with};
+ghost use Rattle.ih_improve.specs.{Settings.IsLawful, WalkerState.left_best_with};
 
-use crate::comparing::is_better;
+use crate::comparing::{Standing, is_better};
+use crate::distances::Distance;
+use crate::settings::Settings;
 use ih_costs::Ledgers;
 use ih_plan::{Move, Plan};
 use ih_tables::{Bill, Instance};
@@ -15,7 +17,7 @@ use std::alloc::{AllocError, Global};
 use std::marker::Model;
 
 /// Ledgers on their way from timetable to timetable, with the bill where they stand, and the best timetable that they
-/// have met. After `new` no call takes memory.
+/// have met, as far as that can be told by the number of changes that is kept along. After `new` no call takes memory.
 #[derive(Drop)]
 pub(crate) struct Walker<'a> {
     inst: &'a Instance,
@@ -27,6 +29,9 @@ pub(crate) struct Walker<'a> {
     left_best: Plan,
     stands_on_best: bool,
     best_bill: Bill,
+    // How far the ledgers are from the start, and the best. Nothing that is promised rests on it.
+    distance: Distance,
+    best_changes: u32,
 }
 
 impl<'a> Model for Walker<'a> {
@@ -68,13 +73,24 @@ fn best_bill_with(is_bettered: bool, next: &Bill, best: &Bill) -> Bill
     if is_bettered { *next } else { *best }
 }
 
+// The first number where it holds, else the second.
+fn chosen(is_first: bool, first: u32, second: u32) -> u32 {
+    if is_first { first } else { second }
+}
+
+// The points of so many changes.
+fn points(keep: u32, changes: u32) -> i64 {
+    i64::from(keep).saturating_mul(i64::from(changes))
+}
+
 impl<'a> Walker<'a> {
-    /// One that stands on a timetable, which is the best so far.
+    /// One that stands on the start, which is the best so far.
     pub(crate) fn new(
         alloc: Global,
         inst: &'a Instance,
         plan: &Plan,
         bill: &Bill,
+        keep: u32,
     ) -> Result<Walker<'a>, AllocError>
         requires plan { IsPlanOf inst.now.draft plan.now }
         requires bill { bill.now ≡ bill_of inst.now.draft plan.now }
@@ -88,30 +104,36 @@ impl<'a> Walker<'a> {
             left_best: plan.try_clone(alloc)?,
             stands_on_best: true,
             best_bill: *bill,
+            distance: Distance::new(alloc, inst, plan, keep > 0)?,
+            best_changes: 0,
         })
     }
 
-    /// Goes to a timetable, which is then the best. In time of the whole timetable.
-    pub(crate) fn go_to(&mut self, plan: &Plan, bill: &Bill)
-        requires plan { IsPlanOf self.old.instance plan.now }
-        requires bill { bill.now ≡ bill_of self.old.instance plan.now }
-        ensures { self.new ≡ record { instance = self.old.instance; now = plan.now; best = plan.now } }
+    /// Goes to the best timetable that it has met. In time of the whole timetable.
+    pub(crate) fn go_to_best(&mut self, keep: u32)
+        ensures { self.new ≡ record self.old { now = self.old.best } }
     {
-        self.ledgers.copy_from(plan);
-        self.bill = *bill;
+        if self.stands_on_best {
+            return;
+        }
+        self.ledgers.copy_from(&self.left_best);
+        self.bill = self.best_bill;
         self.stands_on_best = true;
-        self.best_bill = *bill;
+        if keep > 0 {
+            self.distance.go_to(self.inst, self.ledgers.plan());
+        }
     }
 
-    /// Stays where it stands, and has another timetable as the best so far.
-    pub(crate) fn begin_with_best(&mut self, best: &Plan, bill: &Bill)
+    /// Stays where it stands, and has another timetable as the best so far, which stands so.
+    pub(crate) fn begin_with_best(&mut self, best: &Plan, standing: &Standing)
         requires plan { IsPlanOf self.old.instance best.now }
-        requires bill { bill.now ≡ bill_of self.old.instance best.now }
+        requires bill { standing.now.bill ≡ bill_of self.old.instance best.now }
         ensures { self.new ≡ record { instance = self.old.instance; now = self.old.now; best = best.now } }
     {
         self.left_best.copy_from(best);
         self.stands_on_best = false;
-        self.best_bill = *bill;
+        self.best_bill = standing.bill;
+        self.best_changes = standing.changes;
     }
 
     /// The bill where it stands. Each number is at most 10^11.
@@ -140,18 +162,49 @@ impl<'a> Walker<'a> {
         self.ledgers.price_all_alone(moves)
     }
 
-    /// Makes moves in a row, with this price. Where they lead to a better timetable than any before, it is the best
-    /// from then on.
-    pub(crate) fn make_moves(&mut self, hard: u32, moves: &[Move], price: &Bill)
-        requires hard { hard ≤ 1000000 }
+    /// What moves that add so much to the score add to it with the points of their changes. They are tried where that
+    /// may be at most `most`, and taken back where it isn't. Nothing is promised of the number.
+    #[inline(always)]
+    pub(crate) fn whole_price(&mut self, keep: u32, moves: &[Move], score: i64, most: i64) -> i64
+        ensures { self.new ≡ self.old }
+    {
+        if keep == 0 {
+            return score;
+        }
+        let before = points(keep, self.distance.changes());
+        let least = score.saturating_sub(before);
+        if least > most {
+            return least;
+        }
+        self.distance.play(self.inst, moves);
+        let whole = least.saturating_add(points(keep, self.distance.changes()));
+        if whole > most {
+            self.distance.take_back(self.inst);
+        }
+        whole
+    }
+
+    /// Makes moves in a row, with this price. Where they lead to a better timetable than any before, by the changes that
+    /// are kept along, it is the best from then on.
+    pub(crate) fn make_moves(&mut self, settings: &Settings, moves: &[Move], price: &Bill)
+        requires lawful { IsLawful settings.now }
         requires moves { AreMoves self.old.instance moves.now }
         requires price { price.now ≡ price_of_all self.old.instance self.old.now moves.now }
         ensures instance { self.new.instance ≡ self.old.instance }
         ensures now { self.new.now ≡ after_all self.old.instance self.old.now moves.now }
-        ensures best { self.new.best ≡ better_of self.old.instance hard self.old.best self.new.now }
+        ensures best { (self.new.best ≡ self.old.best) ⊎ (self.new.best ≡ self.new.now) }
     {
         let next = self.bill.add(price);
-        let is_best = is_better(self.inst, hard, &next, &self.best_bill);
+        let changes = self.distance.changes();
+        let here = Standing {
+            bill: next,
+            changes,
+        };
+        let best = Standing {
+            bill: self.best_bill,
+            changes: self.best_changes,
+        };
+        let is_best = is_better(self.inst, settings.hard, settings.keep, &here, &best);
         keep_left(
             self.inst,
             &mut self.left_best,
@@ -162,6 +215,7 @@ impl<'a> Walker<'a> {
         self.ledgers.play_all(moves);
         self.bill = next;
         self.best_bill = best_bill_with(is_best, &next, &self.best_bill);
+        self.best_changes = chosen(is_best, changes, self.best_changes);
         self.stands_on_best = is_best;
     }
 

@@ -13,7 +13,7 @@ add-next-requires c =
     let I = w.inst.now.draft in
     let ms : AreMoves I c.args.moves.now = rw (← c.self.view_is) at c.requires.moves in
     let price : c.args.price.now ≡ price_of_all I w.ledgers.plan c.args.moves.now = rw (← c.self.view_is) at c.requires.price in
-    sum-small I w.inst.now.valid c.args.hard w.ledgers w.left_best w.stands_on_best w.bill w.best_bill c.self.invariant c.args.moves.now ms c.args.price.now price
+    sum-small I w.inst.now.valid w.ledgers w.left_best w.stands_on_best w.bill w.best_bill c.self.invariant c.args.moves.now ms c.args.price.now price
 
 pub is_better-is_best-requires-clause-first : goal.is_better-is_best-requires-clause-first
 is_better-is_best-requires-clause-first c =
@@ -21,7 +21,7 @@ is_better-is_best-requires-clause-first c =
     let I = w.inst.now.draft in
     let ms : AreMoves I c.args.moves.now = rw (← c.self.view_is) at c.requires.moves in
     let price : c.args.price.now ≡ price_of_all I w.ledgers.plan c.args.moves.now = rw (← c.self.view_is) at c.requires.price in
-    next-within I w.inst.now.valid c.args.hard w.ledgers w.left_best w.stands_on_best w.bill w.best_bill c.self.invariant c.args.moves.now ms c.args.price.now price
+    next-within I w.inst.now.valid w.ledgers w.left_best w.stands_on_best w.bill w.best_bill c.self.invariant c.args.moves.now ms c.args.price.now price
     c.add-next.result c.add-next.ensures
 
 pub is_better-is_best-requires-clause-second : goal.is_better-is_best-requires-clause-second
@@ -38,8 +38,8 @@ invariant_of-self c =
     let m : LedgersState = c.play_all.new.self in
     let made : m ≡ record w.ledgers { plan = after_all I w.ledgers.plan c.args.moves.now } =
     c.play_all.ensures ∙ ap (λ (J : Draft). record w.ledgers { plan = after_all J w.ledgers.plan c.args.moves.now }) c.self.invariant.instance in
-    let after = bills-after I w.inst.now.valid c.args.hard w.ledgers w.left_best w.stands_on_best w.bill w.best_bill c.self.invariant c.args.moves.now ms c.args.price.now price
-    c.add-next.result c.add-next.ensures c.is_better-is_best.result c.is_better-is_best.ensures m made in
+    let after = bills-after I w.inst.now.valid w.ledgers w.left_best w.stands_on_best w.bill w.best_bill c.self.invariant c.args.moves.now ms c.args.price.now price
+    c.add-next.result c.add-next.ensures c.is_better-is_best.result m made in
     let left_best : c.keep_left.new.left_best ≡ left_best_with w.stands_on_best c.is_better-is_best.result w.ledgers.plan w.left_best =
     c.keep_left.ensures ∙ ap (λ (P : Timetable). left_best_with w.stands_on_best c.is_better-is_best.result P w.left_best) c.plan.ensures.value in
     rw (left_best, c.best_bill_with-self-inside.ensures) after
@@ -54,6 +54,6 @@ returns-clause-best c =
     c.play_all.ensures ∙ ap (λ (J : Draft). record w.ledgers { plan = after_all J w.ledgers.plan c.args.moves.now }) c.self.invariant.instance in
     let left_best : c.keep_left.new.left_best ≡ left_best_with w.stands_on_best c.is_better-is_best.result w.ledgers.plan w.left_best =
     c.keep_left.ensures ∙ ap (λ (P : Timetable). left_best_with w.stands_on_best c.is_better-is_best.result P w.left_best) c.plan.ensures.value in
-    let best = best-after I w.inst.now.valid c.args.hard w.ledgers w.left_best w.stands_on_best w.bill w.best_bill c.self.invariant c.args.moves.now ms c.args.price.now price
-    c.add-next.result c.add-next.ensures c.is_better-is_best.result c.is_better-is_best.ensures in
+    let best = best-after I w.inst.now.valid w.ledgers w.left_best w.stands_on_best w.bill w.best_bill c.self.invariant c.args.moves.now ms c.args.price.now price
+    c.add-next.result c.add-next.ensures c.is_better-is_best.result in
     rw (left_best, made, ← c.self.view_is) best
