@@ -1,5 +1,6 @@
 pub mod Calls
 pub mod FirstWord
+pub mod ImproveEnding
 pub mod Promises
 pub mod RoundsTaken
 pub mod SameRounds

@@ -1,68 +1,106 @@
 -- What rounds lead a search to, and what they leave in the file of the best.
-use Rattle.std.proofs.Common.{◌≡◌, ◌∙◌, ℕ, zero, suc, ◌+◌, ◌<◌, refl, sym, ap, subst, arith, Bool, true, false, nat_eq, List, [], ◌∷◌, length}
-use Rattle.std.specs.Prelude.{◌||◌, if◌then◌else◌}
+use Rattle.std.proofs.Common.{◌≡◌, ◌∙◌, ℕ, zero, suc, ◌+◌, ◌<◌, refl, sym, ap, ap₂, subst, arith, inl, inr, Bool, true, false, nat_eq, List, [], ◌∷◌, length, Option, Some, None}
+use Rattle.std.specs.Prelude.{◌&&◌, ◌||◌, ◌⊎◌, if◌then◌else◌}
+use Rattle.std.proofs.lemmas.Bool.{and_parts, eqb-true}
 use Rattle.ih_tables.specs.Bills.{feasible}
 use Rattle.ih_plan.specs.Timetable.{Timetable}
 use Rattle.ih_plan.specs.BillOf.{bill_of}
 use Rattle.ih_shelf.specs.Outside.{IsWritten, Names, OthersKept}
 use Rattle.ih_solution.specs.Solution.{solution}
-use Rattle.ih_improve.specs.ImproverState.{ImproverState, led_to}
+use Rattle.ih_improve.specs.Better.{is_better_than, standing_of}
+use Rattle.ih_improve.specs.ImproverState.{ImproverState, led_to, terms_of}
+use Rattle.ih_improve.proofs.BetterLemmas.{better-through}
 use Rattle.ih_improve.specs.declared.spans.Span.{Span}
 use Rattle.ih_improve.specs.Legs.{Leaves, LegState}
 use Rattle.ih_answers.specs.Ends.{Unchanged}
 use Rattle.ih_frame.specs.Outcomes.{AreWritten, OutcomeState}
 use Rattle.ih_frame.specs.Steps.{AreAllWritten, AreSteps}
 use Rattle.ih_planning.specs.Laws.{RoundsLeaveTheirBest}
-use Rattle.ih_planning.specs.Rounds.{HoldsBest, IsRound, SearchTask, best_writing, is_new}
+use Rattle.ih_planning.specs.Rounds.{HoldsBest, IsRound, SearchTask, beats, best_writing, goes_out, is_new}
 
 -- what isn't the first is a later one
 later-one : (n : ℕ) (b : Bool) → (nat_eq n 0 || b) ≡ false → 0 < n
 later-one zero b e = absurd (let clash : true ≡ false = e in cc)
 later-one (suc n) b e = omega arith
 
+-- what is new is the first, or better
+first-or-better : (n : ℕ) (b : Bool) → (nat_eq n 0 || b) ≡ true → (n ≡ 0) ⊎ (b ≡ true)
+first-or-better n b e = by_case (nat_eq n 0) refl e
+  where
+    by_case : (first : Bool) → nat_eq n 0 ≡ first → (first || b) ≡ true → (n ≡ 0) ⊎ (b ≡ true)
+    by_case true is e = inl (eqb-true n 0 is)
+    by_case false is e = inr e
+
 -- a test that fails before it fails
 failed-before : (a b : Bool) → (a ≡ true → b ≡ true) → b ≡ false → a ≡ false
 failed-before true b works lacks = absurd (let clash : true ≡ false = sym (works refl) ∙ lacks in cc)
 failed-before false b works lacks = refl
 
+-- what is better than a feasible one is feasible
+works-too : (a b cheap low : Bool) → (if a then (if b then cheap else true) else (if b then false else low)) ≡ true → b ≡ true → a ≡ true
+works-too true b cheap low h on = refl
+works-too false true cheap low h on = absurd (let no : false ≡ true = h in cc)
+works-too false false cheap low h on = absurd (let no : false ≡ true = on in cc)
+
 module _ (may_leave : LegState → ℕ → Timetable → Type 0) (t : SearchTask) where
   -- ---- one round
 
-  -- the file of the best behind a round that led from u to P
-  one-more : (u : ImproverState) (s : Span) (P : Timetable) (o : OutcomeState) (old mid new : Names) → IsRound may_leave t u o (led_to u s P) → HoldsBest t.out u old mid
-      → AreWritten o.writes mid new → HoldsBest t.out (led_to u s P) old new
-  one-more u s P o old mid new r before wrote =
-      by_flags (feasible (bill_of u.instance P)) refl (is_new u (led_to u s P)) refl (subst (λ (x : OutcomeState). AreWritten x.writes mid new) r.comes wrote)
+  -- the best went to OUT, and so does a better one
+  goes-on : (u : ImproverState) (s : Span) (P : Timetable)
+      → is_better_than (terms_of u) P u.kept ≡ true
+      → goes_out t u ≡ true → goes_out t (led_to u s P) ≡ true
+  goes-on u s P better goes =
+      let parts = and_parts (feasible (bill_of u.instance u.kept)) (beats u t.held) goes in
+      ap₂ (λ (a b : Bool). a && b) (works-too (feasible (bill_of u.instance P)) (feasible (bill_of u.instance u.kept)) _ _ better parts.0) (beat-on t.held parts.1)
     where
-      by_flags : (b : Bool) → feasible (bill_of u.instance P) ≡ b → (n : Bool) → is_new u (led_to u s P) ≡ n
-          → AreWritten (if b then (if n then best_writing t.out (led_to u s P) ∷ [] else []) else []) mid new → HoldsBest t.out (led_to u s P) old new
-      by_flags true works true now (m, whole, same) =
+      beat-on : (held : Option Timetable) → beats u held ≡ true → beats (led_to u s P) held ≡ true
+      beat-on None h = refl
+      beat-on (Some H) h =
+          better-through u.settings.hard u.settings.keep u.instance.weights (standing_of (terms_of u) P) (standing_of (terms_of u) u.kept) (standing_of (terms_of u) H) better h
+
+  -- the file of the best behind a round that led from u to P
+  one-more : (u : ImproverState) (s : Span) (P : Timetable) (o : OutcomeState) (old mid new : Names) → IsRound may_leave t u o (led_to u s P) → HoldsBest t u old mid
+      → AreWritten o.writes mid new → HoldsBest t (led_to u s P) old new
+  one-more u s P o old mid new r before wrote =
+      by_flags (is_new u (led_to u s P)) refl (goes_out t (led_to u s P)) refl (subst (λ (x : OutcomeState). AreWritten x.writes mid new) r.comes wrote)
+    where
+      -- nothing is written, and nothing was
+      unwritten : goes_out t (led_to u s P) ≡ false → Unchanged old mid → Unchanged mid new → HoldsBest t (led_to u s P) old new
+      unwritten lacks none same = record {
+        found = λ some ok. absurd (let clash : true ≡ false = sym ok ∙ lacks in cc);
+        none = λ e. λ k. same k ∙ none k;
+        unsearched = λ e. absurd (omega (arith, e));
+        others = λ k other. same k ∙ none k;
+      }
+
+      by_flags : (n : Bool) → is_new u (led_to u s P) ≡ n → (b : Bool) → goes_out t (led_to u s P) ≡ b
+          → AreWritten (if n && b then best_writing t.out (led_to u s P) ∷ [] else []) mid new → HoldsBest t (led_to u s P) old new
+      by_flags true now true goes (m, whole, same) =
           let kept : OthersKept t.out old new = λ n other. same n ∙ whole.others n other ∙ before.others n other in
           record {
             found = λ some ok. record { whole = same t.out ∙ whole.whole; others = kept };
-            none = λ lacks. absurd (let clash : true ≡ false = sym works ∙ lacks in cc);
+            none = λ lacks. absurd (let clash : true ≡ false = sym goes ∙ lacks in cc);
             unsearched = λ none. absurd (omega (arith, none));
             others = kept;
           }
-      by_flags true works false again same =
+      by_flags false again true goes same =
           let kept : P ≡ u.kept = r.same again in
           let later : 0 < u.rounds = later-one u.rounds _ again in
-          let held = before.found later (ap (λ (Q : Timetable). feasible (bill_of u.instance Q)) (sym kept) ∙ works) in
+          let held = before.found later (ap (λ (Q : Timetable). goes_out t (led_to u s Q)) (sym kept) ∙ goes) in
           record {
             found = λ some ok. subst (λ (Q : Timetable). IsWritten t.out (solution u.instance Q) old new) (sym kept)
                 (record { whole = same t.out ∙ held.whole; others = λ n other. same n ∙ held.others n other });
-            none = λ lacks. absurd (let clash : true ≡ false = sym works ∙ lacks in cc);
+            none = λ lacks. absurd (let clash : true ≡ false = sym goes ∙ lacks in cc);
             unsearched = λ none. absurd (omega (arith, none));
             others = λ n other. same n ∙ before.others n other;
           }
-      by_flags false lacks n now same =
-          let none : Unchanged old mid = before.none (failed-before _ _ r.no_dearer.works lacks) in
-          record {
-            found = λ some ok. absurd (let clash : true ≡ false = sym ok ∙ lacks in cc);
-            none = λ e. λ k. same k ∙ none k;
-            unsearched = λ e. absurd (omega (arith, e));
-            others = λ k other. same k ∙ before.others k other;
-          }
+      by_flags false again false lacks same =
+          let kept : P ≡ u.kept = r.same again in
+          unwritten lacks (before.none (ap (λ (Q : Timetable). goes_out t (led_to u s Q)) (sym kept) ∙ lacks)) same
+      by_flags true now false lacks same = elim (first-or-better u.rounds _ now) [
+        | inl first ↦ unwritten lacks (before.unsearched first) same
+        | inr better ↦ unwritten lacks (before.none (failed-before _ _ (goes-on u s P better) lacks)) same
+      ]
 
   -- ---- all rounds
 
@@ -83,15 +121,15 @@ module _ (may_leave : LegState → ℕ → Timetable → Type 0) (t : SearchTask
         (sym (ap (λ (x : ImproverState). x.attempts) r.next)))
 
     pub holds : v.rounds ≡ 0 → (rs : List OutcomeState) (w : ImproverState) (old new : Names) → AreSteps (IsRound may_leave t) v rs w → AreAllWritten rs old new
-        → HoldsBest t.out w old new
-    holds none [] w old new is same = subst (λ (x : ImproverState). HoldsBest t.out x old new) (sym is) (record {
+        → HoldsBest t w old new
+    holds none [] w old new is same = subst (λ (x : ImproverState). HoldsBest t x old new) (sym is) (record {
       found = λ some ok. absurd (omega (arith, some, none));
       none = λ lacks. same;
       unsearched = λ e. same;
       others = λ n other. same n;
     })
     holds none (o ∷ rs) w old new (u, before, r) (mid, earlier, wrote) =
-        subst (λ (x : ImproverState). HoldsBest t.out x old new) (sym r.next)
+        subst (λ (x : ImproverState). HoldsBest t x old new) (sym r.next)
         (one-more u r.span w.kept o old mid new (subst (λ (x : ImproverState). IsRound may_leave t u o x) r.next r) (holds none rs u old mid before earlier) wrote)
 
 pub best-left : RoundsLeaveTheirBest

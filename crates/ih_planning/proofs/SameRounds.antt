@@ -1,5 +1,6 @@
 -- Rounds that determined workers make leave the same.
 use Rattle.std.proofs.Common.{◌≡◌, ◌∙◌, ℕ, sym, ap, subst, arith, List, [], ◌∷◌, length}
+use Rattle.std.specs.Prelude.{◌&&◌}
 use Rattle.ih_plan.specs.Timetable.{Timetable}
 use Rattle.ih_improve.specs.ImproverState.{ImproverState, Leads, led_to}
 use Rattle.ih_improve.specs.Laws.{IsDetermined}
@@ -11,7 +12,7 @@ use Rattle.ih_frame.specs.Steps.{AreSteps}
 use Rattle.ih_frame.proofs.SameFiles.{SameWrites, files-same}
 use Rattle.ih_planning.specs.Laws.{AreRounds, AttemptsLeaveTheSame, DifferInNumbers, IsTheSame, RoundsLeaveTheSame}
 use Rattle.ih_planning.specs.Pacing.{IsNextSpan, attempts_of, share_of}
-use Rattle.ih_planning.specs.Rounds.{IsRound, SearchTask, best_writes, is_new, round_line}
+use Rattle.ih_planning.specs.Rounds.{IsRound, SearchTask, best_writes, goes_out, is_new, round_line}
 use Rattle.ih_planning.specs.declared.pacing.Length.{Length}
 use Rattle.ih_planning.specs.declared.pacing.Length.TheVariants.{Attempts}
 
@@ -43,7 +44,7 @@ module _ (may_leave : LegState → ℕ → Timetable → Type 0) (determined : I
           tt,
         );
         writes = ap (λ (q : OutcomeState). q.writes) one.comes
-            ∙ (ap (λ (y : ImproverState). best_writes t.out (is_new u y) y) here ∙ sym (ap (λ (q : OutcomeState). q.writes) again.comes));
+            ∙ (ap (λ (y : ImproverState). best_writes t.out (is_new u y && goes_out t y) y) here ∙ sym (ap (λ (q : OutcomeState). q.writes) again.comes));
       }
 
   -- ---- all rounds

@@ -3,11 +3,11 @@ use Rattle.std.proofs.Common.{◌≡◌, ◌∙◌, ◌≤◌, ℕ, refl, sym, a
 use Rattle.std.specs.Prelude.{◌&&◌, IfSome, if◌then◌else◌, unwrap_or, codes}
 use Rattle.clap.specs.Words.{Row}
 use Rattle.ih_plan.specs.declared.limits.TheConstants.{MAX_HARD, MAX_HEAT, MAX_WORKERS}
-use Rattle.ih_arguments.specs.Distinct.{all_differ}
-use Rattle.ih_arguments.specs.Matches.{number_if_given}
-use Rattle.ih_arguments.specs.Start.{freezes_a_file}
+use Rattle.ih_arguments.specs.Matches.{IsNumberIfGiven, number_if_given}
+use Rattle.ih_arguments.specs.Start.{freezes_a_file, takes_a_file}
 use Rattle.ih_arguments.proofs.Getters.{number_if_given-within}
-use Rattle.ih_planning.specs.Calls.Improve.{HasImprove, ImproveCall, IsLawfulCall, are_options_apart, are_settings_lawful, default_rounds, improve_files, improve_in, lawful_improve, length_in}
+use Rattle.ih_improve.specs.declared.settings.TheConstants.{MAX_KEEP}
+use Rattle.ih_planning.specs.Calls.Improve.{HasImprove, ImproveCall, IsLawfulCall, are_options_apart, are_settings_lawful, are_names_apart, default_rounds, improve_in, keep_in, lawful_improve, length_in}
 use Rattle.ih_planning.specs.Pacing.{attempts_of}
 use Rattle.ih_planning.specs.declared.pacing.Length.{Length}
 use Rattle.ih_planning.specs.declared.pacing.Length.TheVariants.{Attempts, Seconds}
@@ -27,6 +27,16 @@ rounds-within (Seconds s) = (omega arith, omega arith)
 abbrev pub AreFew : ImproveCall → Type 0
 AreFew c = (attempts_of c.pace.length ≤ MAX_CALL_ATTEMPTS) × (unwrap_or c.settings.cold 0 ≤ unwrap_or c.settings.hot MAX_HEAT)
 
+-- what a change weighs is within its limits
+keep-within : (rows : List Row) → IsNumberIfGiven 0 MAX_KEEP (codes "keep") rows → unwrap_or (keep_in rows) 0 ≤ MAX_KEEP
+keep-within rows has = by_case (takes_a_file rows)
+  where
+    by_case : (b : Bool) → unwrap_or (if b then number_if_given (codes "keep") rows else Some 0) 0 ≤ MAX_KEEP
+    by_case true =
+        (default-within 0 MAX_KEEP 0 (number_if_given (codes "keep") rows) (omega arith) (omega arith)
+        (number_if_given-within 0 MAX_KEEP (codes "keep") rows has)).1
+    by_case false = omega arith
+
 -- the other limits are those of clap's rules
 pub settings-lawful : (rows : List Row) → HasImprove rows → AreFew (improve_in rows) → IsLawfulCall (improve_in rows)
 settings-lawful rows has few =
@@ -40,7 +50,7 @@ settings-lawful rows has few =
     let hard = default-within 0 MAX_HARD MAX_HARD (number_if_given (codes "hard") rows) (omega arith) (omega arith)
     (number_if_given-within 0 MAX_HARD (codes "hard") rows has.hard) in
     record {
-      settings = record { some_worker = workers.0; workers = workers.1; hot = hot.1; cold = few.1; hard = hard.1 };
+      settings = record { some_worker = workers.0; workers = workers.1; hot = hot.1; cold = few.1; hard = hard.1; keep = keep-within rows has.keep };
       pace = record { some = rounds.0; rounds = rounds.1; attempts = few.0 };
     }
 
@@ -60,7 +70,7 @@ if-false b x y is = subst (λ (t : Bool). (if t then x else y) ≡ y) (sym is) r
 -- the tests of a call's values
 abbrev pub are_values_lawful : List Row → ImproveCall → Bool
 are_values_lawful rows c =
-    freezes_a_file rows && (are_options_apart rows && (all_differ (improve_files c) && are_settings_lawful c))
+    freezes_a_file rows && (are_options_apart rows && (are_names_apart c && are_settings_lawful c))
 
 module _ (rows : List Row) (c : ImproveCall) (is : c ≡ improve_in rows) where
   pub lawful-call : are_values_lawful rows c ≡ true → Some c ≡ lawful_improve rows

@@ -1,5 +1,5 @@
 -- The calls of the program: each list has a line for each command.
-use Rattle.std.specs.Prelude.{◌≡◌, ◌⊎◌, true, List, Option, None, codes, if◌then◌else◌, option_map, slice_get}
+use Rattle.std.specs.Prelude.{◌≡◌, ◌≢◌, ◌⊎◌, [], true, List, Option, None, codes, if◌then◌else◌, option_map, slice_get}
 use Rattle.std.specs.Option.{option_map_or}
 use Rattle.std.specs.Str.{bytes_eq}
 use Rattle.clap.specs.Simple.{on_top}
@@ -7,12 +7,13 @@ use Rattle.clap.specs.Words.{App, Text, new_app, with_subcommand}
 use Rattle.ih_arguments.specs.Matches.{by_first_word, call_by}
 use Rattle.ih_inputs.specs.Reading.{Given, InputFiles}
 use Rattle.ih_answers.specs.declared.status.Status.{Status}
-use Rattle.ih_answers.specs.declared.status.Status.TheVariants.{Done, Infeasible, NoneFound, OutOfMemory}
+use Rattle.ih_answers.specs.declared.status.Status.TheVariants.{Done, Infeasible, NoneFound, OutOfMemory, StartRefused}
 use Rattle.ih_frame.specs.Outcomes.{OutcomeState}
 use Rattle.ih_planning.specs.Calls.Bound.{BoundCall, HasFewWorkers, IsBounded, bound_app, bound_call, bound_inputs, lawful_bound}
 use Rattle.ih_planning.specs.Calls.Carry.{CarryCall, IsCarriedOver, carry_app, carry_call, carry_inputs, lawful_carry}
 use Rattle.ih_planning.specs.Calls.Check.{CheckCall, IsChecked, check_app, check_call, check_inputs, lawful_check}
 use Rattle.ih_planning.specs.Calls.Improve.{ImproveCall, IsLawfulCall, improve_app, improve_call, improve_inputs, lawful_improve}
+use Rattle.ih_planning.specs.Pinning.{unknown_patient}
 use Rattle.ih_planning.specs.Calls.View.{IsViewed, ViewCall, lawful_view, view_app, view_call, view_inputs}
 use Rattle.ih_planning.specs.declared.command.Command.{Command}
 use Rattle.ih_planning.specs.declared.command.Command.TheVariants.{Bound as BoundCommand, Carry as CarryCommand, Check as CheckCommand, Improve as ImproveCommand, View as ViewCommand}
@@ -108,7 +109,9 @@ comes_to (carry c) = IsCarriedOver c
 
 -- the answers of a call that has all that it needs
 abbrev pub IsAnswered : Call → Status → Type 0
-IsAnswered (improve c) status = (status ≡ Done) ⊎ (status ≡ NoneFound) ⊎ (status ≡ OutOfMemory)
+IsAnswered (improve c) status =
+    (status ≡ Done) ⊎ (status ≡ NoneFound) ⊎ (status ≡ OutOfMemory)
+    ⊎ ((c.pins ≢ []) × (status ≡ StartRefused unknown_patient))
 IsAnswered (view v) status = (status ≡ Done) ⊎ (status ≡ OutOfMemory)
 IsAnswered (bound b) status = (status ≡ Done) ⊎ (status ≡ Infeasible) ⊎ (status ≡ OutOfMemory)
 IsAnswered (check c) status = (status ≡ Done) ⊎ (status ≡ Infeasible) ⊎ (status ≡ OutOfMemory)

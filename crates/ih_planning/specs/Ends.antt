@@ -1,7 +1,7 @@
 -- How a call of the program ends: what it then has read, written and said, by its status.
 use Rattle.std.specs.Prelude.{◌≡◌, ℕ, ◌+◌, List, Option, Some, None}
 use Rattle.clap.specs.Words.{Text}
-use Rattle.ih_shelf.specs.Outside.{IfTold, IsOnePutAtMost, Names}
+use Rattle.ih_shelf.specs.Outside.{IfTold, IsOnePutAtMost, Names, is_there}
 use Rattle.ih_arguments.specs.Explaining.{MayAskForHelp, MayBeRefused}
 use Rattle.ih_inputs.specs.Reading.{Given, HasGiven}
 use Rattle.ih_answers.specs.declared.status.Status.{Status}
@@ -11,6 +11,7 @@ use Rattle.ih_answers.specs.Texts.{memory_text}
 use Rattle.ih_frame.specs.Ends.{CommandEnds}
 use Rattle.ih_frame.specs.Steps.{ArePutsAtMost}
 use Rattle.ih_planning.specs.Calls.{Call, IsAnswered, app_for, comes_to, improve, inputs_of}
+use Rattle.ih_planning.specs.Calls.Improve.{improve_inputs, reading}
 use Rattle.ih_planning.specs.Pacing.{most_rounds}
 use Rattle.ih_planning.specs.Searching.{ImproveEnds}
 
@@ -46,11 +47,13 @@ abbrev pub IsUntouched : {X : Type 0} → Option Call → X → X → Type 0
 IsUntouched None old new = new ≡ old
 IsUntouched (Some call) old new = Unit {0}
 
--- the files that a call reads are as they ought to be
+-- the files that a call reads are as they ought to be; OUT is one of them only where it is there
 abbrev pub HasFiles : Call → Names → Type 0
+HasFiles (improve c) files =
+    (g : Given) × HasGiven (Some files) (improve_inputs (reading (is_there files c.out) c)) g
 HasFiles call files = (g : Given) × HasGiven (Some files) (inputs_of call) g
 
--- where the words are lawful, the files are accepted and no count rose, there are two or three answers
+-- where the words are lawful, the files are accepted and no count rose, there are two to four answers
 abbrev pub IsComplete : Option Call → Option Names → Type 0 → Type 0 → Type 0 → Status → Type 0
 IsComplete None files read wrote put status = Unit {0}
 IsComplete (Some call) None read wrote put status = Unit {0}

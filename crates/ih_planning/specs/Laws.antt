@@ -1,5 +1,5 @@
 -- Laws of calls of the program.
-use Rattle.std.specs.Prelude.{◌≡◌, ℕ, true, false, List, [], ◌∷◌, ◌++◌, length, Option, Some, None}
+use Rattle.std.specs.Prelude.{◌≡◌, ℕ, true, false, List, [], ◌∷◌, ◌++◌, length, Option, Some, None, IfSome, ◌⊎◌}
 use Rattle.clap.specs.Words.{Text}
 use Rattle.ih_tables.specs.declared.drafts.Draft.{Draft}
 use Rattle.ih_tables.specs.Bills.{feasible}
@@ -8,12 +8,14 @@ use Rattle.ih_plan.specs.BillOf.{bill_of}
 use Rattle.ih_shelf.specs.Outside.{IfTold, IsWritten, Names}
 use Rattle.ih_solution.specs.Solution.{solution}
 use Rattle.ih_validate.specs.Report.{report}
-use Rattle.ih_inputs.specs.Reading.{HasInputs}
+use Rattle.ih_inputs.specs.Reading.{HasInputs, HasSolution}
 use Rattle.ih_improve.specs.Following.{IsNoDearer, MayFollow}
 use Rattle.ih_improve.specs.Given.{AreSettingsOf}
 use Rattle.ih_improve.specs.ImproverState.{ImproverState}
 use Rattle.ih_improve.specs.Laws.{IsDetermined}
 use Rattle.ih_improve.specs.Legs.{Leaves, LegState}
+use Rattle.ih_improve.specs.Pinned.{pins_of}
+use Rattle.ih_improve.specs.Terms.{Terms}
 use Rattle.ih_improve.specs.declared.settings.Settings.{Settings}
 use Rattle.ih_improve.specs.declared.spans.Span.{Span}
 use Rattle.ih_answers.specs.declared.status.Status.TheVariants.{Done, NoneFound}
@@ -22,15 +24,27 @@ use Rattle.ih_frame.specs.Outcomes.{OutcomeState}
 use Rattle.ih_frame.specs.Steps.{AreAllWritten, AreSteps}
 use Rattle.ih_planning.specs.Calls.Improve.{ImproveCall, improve_inputs}
 use Rattle.ih_planning.specs.Pacing.{attempts_of}
-use Rattle.ih_planning.specs.Rounds.{HoldsBest, IsRound, SearchTask, round_line}
+use Rattle.ih_planning.specs.Rounds.{HoldsBest, IsRound, SearchTask, changes_text, round_line}
 use Rattle.ih_planning.specs.declared.pacing.Length.TheVariants.{Attempts}
 use Rattle.ih_planning.specs.declared.pacing.Pace.{Pace}
 use Rattle.ih_planning.specs.declared.rounds.RoundNumbers.{RoundNumbers}
+use Rattle.ih_planning.specs.Pinning.{first_unknown}
 use Rattle.ih_planning.specs.Searching.{ImproveEnds, IsSearch, begun}
 
--- OUT has the solution of a feasible timetable that keeps the start's choices before the freeze day and, where the
--- timetable that was given is feasible, costs at most as much, filled or not, and so it does where the start is; and what
--- was told ends with the report on it, by its full bill.
+-- what a call's search goes by, from an instance, a start and settings
+abbrev pub call_terms : ImproveCall → Draft → Timetable → Settings → Terms
+call_terms c I start s =
+    record { instance = I; start = start; pins = pins_of I c.pins c.pin_nurses; settings = s }
+
+-- The timetable is found by the search from a start, and written to OUT; or OUT had it, and nothing is written.
+abbrev pub IsInOut : ImproveCall → Draft → Timetable → Settings → Timetable → Option Names → Option Names → Type 0
+IsInOut c I start s P old new =
+    (MayFollow (call_terms c I start s) start P × IfTold (IsWritten c.out (solution I P)) old new)
+    ⊎ (IfSome old (HasSolution c.out I P) × IfTold Unchanged old new)
+
+-- OUT has a feasible timetable, which is one that the search found and that keeps the start's choices that are before the
+-- freeze day or pinned, or the one that was there and isn't dearer. Where the timetable that was given is feasible, it costs at most as
+-- much, filled or not. What was told ends with the report on it, by its full bill.
 pub record IsImproved (c : ImproveCall) (old new : Option Names) (text : List ℕ) : Type 0 where
   pub instance : Draft
   pub given : Timetable
@@ -42,10 +56,13 @@ pub record IsImproved (c : ImproveCall) (old new : Option Names) (text : List �
   pub started : start ≡ begun c.start.fill settings.hard instance given
   pub best : Timetable
   pub feasible : feasible (bill_of instance best) ≡ true
-  pub follows : MayFollow instance start c.settings.freeze start best
   pub no_dearer : IsNoDearer instance given best
-  pub written : IfTold (IsWritten c.out (solution instance best)) old new
-  pub told : (before : List ℕ) × (text ≡ before ++ report instance.weights (bill_of instance best))
+  pub named : first_unknown instance c.pins ≡ None
+  pub in_out : IsInOut c instance start settings best old new
+  -- how its changes are told, where the search found it and they weigh anything
+  pub changes : List ℕ
+  pub are_changes : (changes ≡ []) ⊎ (changes ≡ changes_text settings.keep instance start best)
+  pub told : (before : List ℕ) × (text ≡ before ++ (report instance.weights (bill_of instance best) ++ changes))
 
 -- a call of improve that is done has improved
 abbrev pub DoneCallsHaveImproved : Type 0
@@ -78,7 +95,7 @@ abbrev pub RoundsLeaveTheirBest : Type 0
 RoundsLeaveTheirBest =
     (t : SearchTask) (v w : ImproverState) (rs : List OutcomeState) (old new : Names) → v.rounds ≡ 0
     → AreSteps (IsRound Leaves t) v rs w → AreAllWritten rs old new
-    → HoldsBest t.out w old new
+    → HoldsBest t w old new
 
 -- what is told of as many rounds is the same but for the heats and what the clock said
 abbrev pub DifferInNumbers : Pace → List OutcomeState → List OutcomeState → Type 0
@@ -124,5 +141,5 @@ AttemptsLeaveTheSame may_leave =
 -- settings
 abbrev pub SearchesAreDetermined : Type 0
 SearchesAreDetermined =
-    (c : ImproveCall) (files : Names) (v w : ImproverState) (one : IsSearch (Some files) c v)
-    (other : IsSearch (Some files) c w) → one.from.processors ≡ other.from.processors → v ≡ w
+    (c : ImproveCall) (files : Names) (held kept : Option Timetable) (v w : ImproverState)
+    (one : IsSearch (Some files) c held v) (other : IsSearch (Some files) c kept w) → one.from.processors ≡ other.from.processors → v ≡ w

@@ -26,14 +26,14 @@ use crate::watches::Watch;
 use ih_answers::Status;
 use ih_arguments::arguments::{Description, with_commands};
 use ih_arguments::explaining::{NoCall, explained, refused};
-use ih_shelf::{Shelf, Sink};
+use ih_shelf::{Finds, Sink};
 use std::alloc::{AllocError, Global};
 use std::rt::Files;
 use std::sync::Wait;
 use std::thread::Threads;
 
 /// A lawful command with its values.
-#[derive(Clone, Copy, Debug)]
+#[derive(Debug, Drop)]
 pub enum Command<'a> {
     /// Searches for a better plan.
     Improve(Improve<'a>),
@@ -99,8 +99,9 @@ fn read_named<'a>(alloc: Global, name: &str, words: &'a [String]) -> Result<Comm
 ///
 /// - `Help` where the words ask for help, and `Refused` where no command has them: the first word is no command's name,
 ///   `clap` finds a fault, two file names are equal, a freeze day comes without the file of a start or with `--fill`,
-///   seconds come with attempts, or `--empty` with `--start` or `--fill`, the heat would rise, the workers together would
-///   make more than `MAX_CALL_ATTEMPTS` attempts, or `--from` names no day.
+///   seconds come with attempts, or `--empty` with `--start` or `--fill`, `--keep`, `--pin` or `--pin-nurses` as a freeze
+///   day does, the heat would rise, the workers together would make more than `MAX_CALL_ATTEMPTS` attempts, or `--from`
+///   names no day.
 /// - `OutOfMemory` where memory ran out.
 pub fn read_words<'a>(alloc: Global, words: &'a [String]) -> Result<Command<'a>, NoCall>
     ensures ok { IfOk result (λ c. call_of (map string_bytes words.entry.now) ≡ Some (command_call c)) }
@@ -116,7 +117,7 @@ pub fn read_words<'a>(alloc: Global, words: &'a [String]) -> Result<Command<'a>,
 }
 
 /// Does what the command asks for, and says how that ended.
-pub(crate) fn perform<R: Files + Print + Threads + Wait + Sync, S: Shelf, O: Sink, W: Watch>(
+pub(crate) fn perform<R: Files + Print + Threads + Wait + Sync, S: Finds, O: Sink, W: Watch>(
     rt: &R,
     alloc: Global,
     command: &Command<'_>,

@@ -5,8 +5,9 @@ ghost use Rattle.ih_planning.specs.Laws.{AttemptsLeaveTheSame, RoundsLeaveTheSam
 
 use ih_improve::Walks;
 
-/// What a call of `improve` leaves: done, the solution of a feasible timetable that keeps the start's choices before
-/// the freeze day and is no dearer than the start; with none found, each file as it was, but for the draft.
+/// What a call of `improve` leaves: done, the solution of a feasible timetable that keeps the start's choices that are
+/// before the freeze day or pinned, and is no dearer than the start; with none found, each file as it was, but for the
+/// draft.
 pub fn done_calls_have_improved()
     ensures done { DoneCallsHaveImproved }
     ensures none { NoneFoundLeavesADraft }

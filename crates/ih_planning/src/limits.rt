@@ -1,7 +1,7 @@
 //! The limits of the words, and what stands for those that are left out.
 
 ghost use Rattle.std.specs.Prelude.{◌≡◌};
-ghost use Rattle.ih_improve.specs.declared.settings.TheConstants.{MAX_ROUNDS};
+ghost use Rattle.ih_improve.specs.declared.settings.TheConstants.{MAX_KEEP, MAX_ROUNDS};
 ghost use Rattle.ih_planning.specs.declared.command.bound.TheConstants.{DEFAULT_BOUND_ROUNDS, DEFAULT_BOUND_WORKERS};
 ghost use Rattle.ih_planning.specs.declared.command.bound.TheConstants.{MAX_BOUND_ROUNDS};
 ghost use Rattle.ih_planning.specs.declared.command.improve_words.TheConstants.{DEFAULT_ROUNDS, DEFAULT_SECONDS, DEFAULT_SEED};
@@ -15,6 +15,7 @@ pub fn limits_are_these()
     ensures rounds { MAX_CALL_ROUNDS ≡ 10000 }
     ensures timed_rounds { MAX_ROUNDS ≡ 1000000 }
     ensures seconds { MAX_SECONDS ≡ 604800 }
+    ensures keep { MAX_KEEP ≡ 1000000 }
     ensures default_rounds { DEFAULT_ROUNDS ≡ 20 }
     ensures default_timed_rounds { DEFAULT_TIMED_ROUNDS ≡ 40 }
     ensures default_seconds { DEFAULT_SECONDS ≡ 60 }

@@ -1,20 +1,28 @@
 //! A search in rounds: what each round comes to, and what the search comes to at last.
 
-ghost use Rattle.std.specs.Prelude.{◌≡◌, ◌≤◌, false, true, IfOk, map, option_map, string_bytes};
-ghost use Rattle.ih_answers.specs.declared.status.Status.TheVariants.{Done};
+ghost use Rattle.std.specs.Prelude.{◌≡◌, ◌≤◌, ◌&&◌, ◌+◌, ◌++◌, false, true, IfOk, IfSome, map, option_map, string_bytes};
+ghost use Rattle.ih_tables.specs.Bills.{feasible};
+ghost use Rattle.ih_plan.specs.{BillOf.bill_of, Timetable.IsPlanOf};
+ghost use Rattle.ih_validate.specs.Report.{report};
+ghost use Rattle.ih_answers.specs.Texts.{none_found_text};
+ghost use Rattle.ih_answers.specs.declared.status.Status.TheVariants.{Done, NoneFound};
 ghost use Rattle.ih_frame.specs.Outcomes.{IsOwnStatus, outcome_of, writing_of};
-ghost use Rattle.ih_improve.specs.{Following.IsNoDearer, ImproverState.ImproverState, ImproverState.IsSound};
+ghost use Rattle.ih_improve.specs.{Following.IsNoWorse, ImproverState.ImproverState, ImproverState.IsSound};
 ghost use Rattle.ih_improve.specs.{ImproverState.Leads, ImproverState.MayGoOn, ImproverState.led_to, Legs.Leaves};
+ghost use Rattle.ih_improve.specs.ImproverState.{terms_of};
 ghost use Rattle.ih_planning.specs.Pacing.{IsLawfulPace, rounds_left};
-ghost use Rattle.ih_planning.specs.Rounds.{IsRound, IsSearched, SearchTask, best_text, best_writes, draft_writes, is_new, number_text};
-ghost use Rattle.ih_planning.specs.Rounds.{round_line, searched, time_text};
+ghost use Rattle.ih_planning.specs.Rounds.{IsRound, IsSearched, SearchTask, beats, best_text, best_writes, draft_writes, is_new};
+ghost use Rattle.ih_planning.specs.Rounds.{changes_line, changes_text, cost_text, costs_line, end_text, kept_line};
+ghost use Rattle.ih_planning.specs.Rounds.{number_text, round_line, searched, time_text};
 
 use crate::pacing::{Length, Pace, next_span};
 use crate::times::{Times, after_round};
 use crate::watches::Watch;
 use ih_answers::{Role, Status};
+use ih_changes::{Changes, count_changes};
 use ih_frame::{Outcome, Steps, Writing};
 use ih_improve::{Improver, Span};
+use ih_plan::Plan;
 use ih_solution::write_solution;
 use ih_tables::Instance;
 use ih_validate::{bill, report};
@@ -29,6 +37,8 @@ pub(crate) struct Search<'i, 'o, W> {
     pub(crate) inst: &'i Instance,
     /// The name of the file that the best is written to.
     pub(crate) out: &'o str,
+    /// The timetable that this file has, where it stays unless the best is cheaper.
+    pub(crate) held: Option<&'i Plan>,
     /// The name of the file that it is written to at last where it isn't feasible.
     pub(crate) draft: Option<&'o str>,
     pub(crate) pace: Pace,
@@ -133,7 +143,7 @@ fn search_on<R: Threads + Sync>(rt: &R, improver: &mut Improver<'_>, span: &Span
     requires { MayGoOn improver.old span.now }
     ensures search { improver.new ≡ led_to improver.old span.now improver.new.kept }
     ensures best { Leads Leaves improver.old span.now improver.new.kept }
-    ensures no_dearer { IsNoDearer improver.old.instance improver.old.kept improver.new.kept }
+    ensures no_worse { IsNoWorse (terms_of improver.old) improver.old.kept improver.new.kept }
     ensures new { result ≡ is_new improver.old improver.new }
     ensures same { result ≡ false → improver.new.kept ≡ improver.old.kept }
 {
@@ -142,23 +152,36 @@ fn search_on<R: Threads + Sync>(rt: &R, improver: &mut Improver<'_>, span: &Span
     is_first || is_better
 }
 
-// The write of the best timetable so far, where it is feasible and isn't written yet.
+// The best so far goes to the file of the solution: it is feasible, and better than what that has.
+fn goes_out(held: Option<&Plan>, improver: &Improver<'_>) -> bool
+    requires { IfSome held (λ h. IsPlanOf improver.now.instance h.now) }
+    ensures { result ≡ (feasible (bill_of improver.now.instance improver.now.kept)
+        && beats improver.now (option_map (λ h. h.now) held.entry)) }
+{
+    if improver.best().is_none() {
+        return false;
+    }
+    match held {
+        Some(held) => improver.beats(held),
+        None => true,
+    }
+}
+
+// The write of the best timetable so far.
 fn best_writes<'a>(
     alloc: Global,
     inst: &Instance,
     out: &'a str,
-    is_new: bool,
+    is_written: bool,
     improver: &Improver<'_>,
 ) -> Result<Vec<Writing<'a>>, AllocError>
     requires { improver.now.instance ≡ inst.now.draft }
-    ensures writes { IfOk result (λ ws. map writing_of ws.items ≡ best_writes out.entry.now is_new improver.now) }
+    ensures writes { IfOk result (λ ws. map writing_of ws.items ≡ best_writes out.entry.now is_written improver.now) }
     ensures sound { IsSound improver.now }
 {
     let mut writes = Vec::new(alloc);
-    let Some((plan, _)) = improver.best() else {
-        return Ok(writes);
-    };
-    if is_new {
+    let plan = improver.kept();
+    if is_written {
         let bytes = write_solution(alloc, inst, plan)?;
         writes.push(Writing {
             role: Role::Out,
@@ -192,28 +215,151 @@ fn draft_writes<'a>(
     Ok(writes)
 }
 
-// What is written and said once the search is over, and with which status.
-fn searched<'a>(
+// Which cost the timetable has that stays in the file of the solution, and the report on it.
+fn kept_text(alloc: Global, inst: &Instance, out: &str, held: &Plan) -> Result<Vec<u8>, AllocError>
+    requires { IsPlanOf inst.now.draft held.now }
+    ensures { IfOk result (λ t. t.items ≡ kept_line out.now inst.now.draft held.now
+        ++ report inst.now.draft.weights (bill_of inst.now.draft held.now)) }
+{
+    let bill = bill(inst, held);
+    let mut digits = Buffer::new();
+    let cost = digits.format(bill.cost(inst.weights()));
+    let line: String = format!(in alloc; "{out} keeps the plan of cost {cost}\n")?;
+    let mut text = line.into_bytes();
+    text.extend_from_slice(report(alloc, inst, &bill)?.as_slice())?;
+    Ok(text)
+}
+
+// How many changes there are, of patients and of nurses.
+#[tactic(auto, unfolding(crate::specs::Rounds::changes_line))]
+fn changes_line(alloc: Global, count: Changes) -> Result<String, AllocError>
+    requires { count.patients + count.nurses ≤ 4294967295 }
+    ensures { IfOk result (λ s. string_bytes s ≡ changes_line count) }
+{
+    let mut first = Buffer::new();
+    let mut second = Buffer::new();
+    let mut third = Buffer::new();
+    let all = first.format(count.patients + count.nurses);
+    let patients = second.format(count.patients);
+    let nurses = third.format(count.nurses);
+    format!(in alloc; "{all} changes: {patients} patients, {nurses} nurses' shifts\n")
+}
+
+// The cost of a timetable, where that keeps to all rules.
+fn cost_text(alloc: Global, inst: &Instance, plan: &Plan) -> Result<String, AllocError>
+    requires { IsPlanOf inst.now.draft plan.now }
+    ensures { IfOk result (λ s. string_bytes s ≡ cost_text inst.now.draft plan.now) }
+{
+    let bill = bill(inst, plan);
+    if bill.feasible() {
+        let mut digits = Buffer::new();
+        let cost = digits.format(bill.cost(inst.weights()));
+        String::from_str(alloc, cost)
+    } else {
+        String::from_str(alloc, "none, rules are broken")
+    }
+}
+
+// The costs of the start and of the best.
+fn costs_line(
+    alloc: Global,
+    inst: &Instance,
+    start: &Plan,
+    plan: &Plan,
+) -> Result<String, AllocError>
+    requires start { IsPlanOf inst.now.draft start.now }
+    requires plan { IsPlanOf inst.now.draft plan.now }
+    ensures { IfOk result (λ s. string_bytes s ≡ costs_line inst.now.draft start.now plan.now) }
+{
+    let before = cost_text(alloc, inst, start)?;
+    let before = before.as_str();
+    let after = cost_text(alloc, inst, plan)?;
+    let after = after.as_str();
+    format!(in alloc; "cost before: {before}, after: {after}\n")
+}
+
+// What is told of the changes where they weigh anything.
+fn changes_text(
+    alloc: Global,
+    inst: &Instance,
+    keep: u32,
+    start: &Plan,
+    plan: &Plan,
+) -> Result<String, AllocError>
+    requires start { IsPlanOf inst.now.draft start.now }
+    requires plan { IsPlanOf inst.now.draft plan.now }
+    ensures { IfOk result (λ s. string_bytes s ≡ changes_text keep inst.now.draft start.now plan.now) }
+{
+    if keep == 0 {
+        return Ok(String::new(alloc));
+    }
+    let changes = changes_line(alloc, count_changes(inst, start, plan))?;
+    let changes = changes.as_str();
+    let costs = costs_line(alloc, inst, start, plan)?;
+    let costs = costs.as_str();
+    format!(in alloc; "{changes}{costs}")
+}
+
+// The report on the best, and its changes.
+fn end_text(alloc: Global, inst: &Instance, improver: &Improver<'_>) -> Result<Vec<u8>, AllocError>
+    requires { improver.now.instance ≡ inst.now.draft }
+    ensures { IfOk result (λ t. t.items ≡ end_text improver.now) }
+{
+    let plan = improver.kept();
+    let mut text = report(alloc, inst, &bill(inst, plan))?;
+    let changes = changes_text(alloc, inst, improver.keep(), improver.start(), plan)?;
+    text.extend_from_slice(changes.as_bytes())?;
+    Ok(text)
+}
+
+// None is feasible: what is written and said.
+fn unfound<'a>(
     alloc: Global,
     inst: &Instance,
     draft: Option<&'a str>,
     improver: &Improver<'_>,
 ) -> Result<Outcome<'a>, AllocError>
     requires { improver.now.instance ≡ inst.now.draft }
-    ensures value { IfOk result
-        (λ o. outcome_of o ≡ searched (option_map (λ t. t.now) draft.entry) improver.now) }
+    ensures value { IfOk result (λ o. outcome_of o ≡ record {
+      writes = draft_writes (option_map (λ t. t.now) draft.entry) improver.now;
+      text = none_found_text;
+      status = NoneFound;
+    }) }
     ensures own { IfOk result (λ o. IsOwnStatus o.status) }
 {
-    let Some((plan, _)) = improver.best() else {
-        let text = String::from_str(alloc, "none found\n")?.into_bytes();
-        return Ok(Outcome {
-            writes: draft_writes(alloc, inst, draft, improver)?,
-            text,
-            status: Status::NoneFound,
-        });
-    };
-    let text = report(alloc, inst, &bill(inst, plan))?;
-    Ok(Outcome::said(alloc, Status::Done, text))
+    let text = String::from_str(alloc, "none found\n")?.into_bytes();
+    Ok(Outcome {
+        writes: draft_writes(alloc, inst, draft, improver)?,
+        text,
+        status: Status::NoneFound,
+    })
+}
+
+impl<'i, 'o, W: Watch> Search<'i, 'o, W> {
+    // What is written and said once the search is over, and with which status.
+    fn searched(&self, alloc: Global) -> Result<Outcome<'o>, AllocError>
+        requires instance { self.now.improver.instance ≡ self.now.inst.now.draft }
+        requires held { IfSome self.now.held (λ h. IsPlanOf self.now.inst.now.draft h.now) }
+        ensures value { IfOk result (λ o. outcome_of o ≡ searched (record {
+          out = self.entry.now.out.now;
+          held = option_map (λ h. h.now) self.entry.now.held;
+          draft = option_map (λ t. t.now) self.entry.now.draft;
+          pace = self.entry.now.pace;
+        }) self.entry.now.improver) }
+        ensures own { IfOk result (λ o. IsOwnStatus o.status) }
+    {
+        if goes_out(self.held, &self.improver) {
+            let text = end_text(alloc, self.inst, &self.improver)?;
+            return Ok(Outcome::said(alloc, Status::Done, text));
+        }
+        match self.held {
+            Some(held) if bill(self.inst, held).feasible() => {
+                let text = kept_text(alloc, self.inst, self.out, held)?;
+                Ok(Outcome::said(alloc, Status::Done, text))
+            }
+            _ => unfound(alloc, self.inst, self.draft, &self.improver),
+        }
+    }
 }
 
 impl<'i, 'o, W: Watch> Steps<'o> for Search<'i, 'o, W> {
@@ -223,10 +369,15 @@ impl<'i, 'o, W: Watch> Steps<'o> for Search<'i, 'o, W> {
 
     ghost Task = { SearchTask };
 
-    ghost task = { λ s. record { out = s.out.now; draft = option_map (λ t. t.now) s.draft; pace = s.pace } };
+    ghost task = { λ s. record {
+      out = s.out.now;
+      held = option_map (λ h. h.now) s.held;
+      draft = option_map (λ t. t.now) s.draft;
+      pace = s.pace;
+    } };
 
     ghost is_lawful = { λ s. (s.improver.instance ≡ s.inst.now.draft) × IsLawfulPace s.pace
-        × (s.times.is_over ≡ true → 1 ≤ s.improver.rounds) };
+        × (s.times.is_over ≡ true → 1 ≤ s.improver.rounds) × IfSome s.held (λ h. IsPlanOf s.inst.now.draft h.now) };
 
     ghost left = { λ s. rounds_left s.pace.length s.pace.rounds s.times.is_over s.improver.rounds };
 
@@ -248,7 +399,8 @@ impl<'i, 'o, W: Watch> Steps<'o> for Search<'i, 'o, W> {
         let is_new = search_on(rt, &mut self.improver, &span);
         self.times = after_round(&self.pace, &span, &self.times, &mut self.watch);
         let told = numbers_of(&self.pace, &self.times, &self.improver);
-        let writes = best_writes(alloc, self.inst, self.out, is_new, &self.improver)?;
+        let is_written = is_new && goes_out(self.held, &self.improver);
+        let writes = best_writes(alloc, self.inst, self.out, is_written, &self.improver)?;
         let line = round_line(alloc, &self.pace, &self.improver, &told)?;
         Ok(Outcome {
             writes,
@@ -258,6 +410,6 @@ impl<'i, 'o, W: Watch> Steps<'o> for Search<'i, 'o, W> {
     }
 
     fn end(&self, alloc: Global) -> Result<Outcome<'o>, AllocError> {
-        searched(alloc, self.inst, self.draft, &self.improver)
+        self.searched(alloc)
     }
 }

@@ -11,7 +11,7 @@ use crate::command::{perform, read_words};
 use crate::watches::Watch;
 use ih_answers::{Answer, Status, conclude, conclude_memory};
 use ih_arguments::explaining::NoCall;
-use ih_shelf::{Shelf, Sink};
+use ih_shelf::{Finds, Sink};
 use std::alloc::Global;
 use std::rt::Files;
 use std::sync::Wait;
@@ -19,7 +19,7 @@ use std::thread::Threads;
 
 /// Does all that the program does, by the words after its name. A search puts out a line after each round, and asks the
 /// watch between rounds. At last one text is put out; where a page was written, there is none.
-pub fn run_planner<R: Files + Print + Threads + Wait + Sync, S: Shelf, O: Sink, W: Watch>(
+pub fn run_planner<R: Files + Print + Threads + Wait + Sync, S: Finds, O: Sink, W: Watch>(
     rt: &R,
     alloc: Global,
     words: &[String],
@@ -46,7 +46,8 @@ pub fn run_planner<R: Files + Print + Threads + Wait + Sync, S: Shelf, O: Sink, 
         (S.write_faults shelf.new) (O.faults out.old) (O.faults out.new) result }
 
     // Where the shelf tells what it holds, the words are lawful, the files are as `HasFiles` says and no count rose:
-    // improve ends with its best or with none, view with its page, bound with what it says; or memory runs out.
+    // improve ends with its best or with none, or pins nobody; view with its page, bound with what it says; or memory
+    // runs out.
     ensures complete { IsComplete (call_of (map string_bytes words.now)) (S.names shelf.old)
         (Rose (S.read_faults shelf.old) (S.read_faults shelf.new))
         (Rose (S.write_faults shelf.old) (S.write_faults shelf.new))

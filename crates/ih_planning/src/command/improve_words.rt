@@ -1,14 +1,15 @@
 //! The command `improve`: its description for `clap`, its values and when they are lawful.
 
-ghost use Rattle.std.specs.Prelude.{◌≡◌, ◌&&◌, ◌||◌, not, false, true, ◌*◌, IfOk, codes, is_some, map, nat_le, string_bytes, unwrap_or};
+ghost use Rattle.std.specs.Prelude.{◌≡◌, ◌&&◌, ◌||◌, not, false, true, ◌*◌, IfOk, codes, is_some, map, nat_le, option_map, option_to_list, string_bytes, unwrap_or, ◌∷◌, ◌++◌};
 ghost use Rattle.clap.specs.Words.{found_of, rows_of};
 ghost use Rattle.ih_arguments.specs.{Distinct.all_differ, Matches.call_by};
 ghost use Rattle.ih_arguments.specs.{Matches.IsNumberIfGiven, Matches.number_if_given};
-ghost use Rattle.ih_arguments.specs.Start.{freezes_a_file, start_call};
+ghost use Rattle.ih_arguments.specs.{Matches.texts_at, Start.freezes_a_file, Start.start_call};
 ghost use Rattle.ih_planning.specs.Calls.Improve.{AreOptionsWithin, HasImprove, IsLawfulCall, are_settings_lawful};
-ghost use Rattle.ih_planning.specs.Calls.Improve.{improve_app, improve_call, improve_files, improve_in, lawful_improve};
+ghost use Rattle.ih_planning.specs.Calls.Improve.{are_names_apart, improve_app, improve_call, improve_in, lawful_improve};
 ghost use Rattle.ih_planning.specs.Calls.Improve.{are_options_apart, filled_start_in, length_of};
-ghost use Rattle.ih_planning.specs.Calls.Improve.{default_rounds};
+ghost use Rattle.ih_planning.specs.Calls.Improve.{default_rounds, keep_in, keeps_a_file};
+ghost use Rattle.ih_improve.specs.declared.settings.TheConstants.{MAX_KEEP};
 ghost use Rattle.ih_planning.specs.Pacing.{attempts_of};
 ghost use Rattle.ih_arguments.specs.Explaining.{IsRead};
 
@@ -21,9 +22,10 @@ use ih_arguments::explaining::{NoCall, explained, refused};
 use ih_arguments::file_names::all_differ;
 use ih_arguments::matches::{
     any_number_if_given, flag_of, is_given, matched, number_if_given, optional_text_of, text_of,
+    texts_of,
 };
-use ih_arguments::start::{FILL, FREEZE, START, Start, freezes_a_file, start_in};
-use ih_improve::Given;
+use ih_arguments::start::{FILL, FREEZE, START, Start, freezes_a_file, start_in, takes_a_file};
+use ih_improve::{Given, MAX_KEEP};
 use ih_plan::{MAX_FREEZE, MAX_HARD, MAX_HEAT, MAX_WORKERS};
 use std::alloc::{AllocError, Global};
 
@@ -37,12 +39,14 @@ pub const DEFAULT_SECONDS: u32 = 60;
 pub const DEFAULT_SEED: u64 = 1;
 
 /// `improve INSTANCE OUT` with its options.
-#[derive(Clone, Copy, Debug)]
+#[derive(Debug, Drop)]
 pub struct Improve<'a> {
     /// The name of the instance's file.
     pub instance: &'a str,
     /// The name of the file that the solution goes to.
     pub out: &'a str,
+    /// Whether the timetable that this file has stays where it is cheaper.
+    pub keeps: bool,
     /// How long the search goes on.
     pub pace: Pace,
     /// The settings, of which some may be left out.
@@ -51,6 +55,10 @@ pub struct Improve<'a> {
     pub start: Start<'a>,
     /// The name of the file for the timetable with the least score, where none is feasible.
     pub draft: Option<&'a str>,
+    /// The ids of the patients whose stays are those of the start.
+    pub pins: Vec<&'a str>,
+    /// Whether so are the nurses of all rooms that are occupied there.
+    pub pin_nurses: bool,
 }
 
 /// `improve INSTANCE OUT`, and the options, all of which may be left out.
@@ -118,6 +126,26 @@ pub const IMPROVE: Description<'static, 'static> = Description {
             Kind::Optional,
             "The file that the plan with the least score goes to, where none keeps to all rules"
         ),
+        argument!(
+            "replace",
+            Kind::Flag,
+            "Writes OUT whatever is there; else a cheaper plan stays"
+        ),
+        argument!(
+            "keep",
+            Kind::OptionalNumber(0, MAX_KEEP),
+            "What each change against the start weighs; it needs '--start' [default: by the weights]"
+        ),
+        argument!(
+            "pin",
+            Kind::Repeated,
+            "The id of a patient who stays as in the start; it needs '--start'"
+        ),
+        argument!(
+            "pin-nurses",
+            Kind::Flag,
+            "Leaves the nurses of all rooms that the start occupies; it needs '--start'"
+        ),
     ],
 };
 
@@ -154,9 +182,23 @@ fn filled_start_in<'a>(matches: &ArgMatches<'a>) -> Start<'a>
     }
 }
 
-// The values of `improve`.
-fn improve_in<'a>(matches: &ArgMatches<'a>) -> Improve<'a>
-    requires { HasImprove (rows_of (found_of matches.now)) }
+// What a change weighs: where no number is given it is by the weights, if the timetable of a file is taken as it is, and
+// else nothing.
+fn keep_in(matches: &ArgMatches) -> Option<u32>
+    requires { IsNumberIfGiven 0 MAX_KEEP (codes "keep") (rows_of (found_of matches.now)) }
+    ensures { result ≡ keep_in (rows_of (found_of matches.now)) }
+{
+    if takes_a_file(matches) {
+        number_if_given(matches, "keep")
+    } else {
+        Some(0)
+    }
+}
+
+// The values of `improve`, with the ids that are pinned.
+fn improve_in<'a>(matches: &ArgMatches<'a>, pins: Vec<&'a str>) -> Improve<'a>
+    requires rows { HasImprove (rows_of (found_of matches.now)) }
+    requires pins { map (λ t. t.now) pins.items ≡ texts_at (codes "pin") (rows_of (found_of matches.now)) }
     ensures value { improve_call result ≡ improve_in (rows_of (found_of matches.now)) }
     ensures limits { AreOptionsWithin (improve_call result) }
 {
@@ -168,6 +210,7 @@ fn improve_in<'a>(matches: &ArgMatches<'a>) -> Improve<'a>
     Improve {
         instance: text_of(matches, "INSTANCE"),
         out: text_of(matches, "OUT"),
+        keeps: !flag_of(matches, "replace"),
         pace: Pace {
             length,
             rounds: number_if_given(matches, "rounds").unwrap_or(default_rounds(length)),
@@ -179,30 +222,42 @@ fn improve_in<'a>(matches: &ArgMatches<'a>) -> Improve<'a>
             cold: number_if_given(matches, "cold"),
             hard: number_if_given(matches, "hard"),
             freeze: start.freeze,
+            keep: keep_in(matches),
         },
         start,
         draft: optional_text_of(matches, "draft"),
+        pins,
+        pin_nurses: flag_of(matches, "pin-nurses"),
     }
 }
 
-// The names of the files differ.
-fn names_differ(improve: &Improve) -> bool
-    ensures { result ≡ all_differ (improve_files (improve_call improve.now)) }
+// The names of the instance, of another file and of the draft, where they are given, differ.
+fn differ<'a>(instance: &'a str, other: Option<&'a str>, draft: Option<&'a str>) -> bool
+    ensures { result ≡ all_differ (instance.entry.now ∷ (option_to_list (option_map (λ t. t.now) other.entry)
+        ++ option_to_list (option_map (λ t. t.now) draft.entry))) }
 {
-    match (improve.start.file, improve.draft) {
-        (Some(start), Some(draft)) => {
-            let names = [improve.instance, improve.out, start, draft];
+    match (other, draft) {
+        (Some(other), Some(draft)) => {
+            let names = [instance, other, draft];
             all_differ(names.as_slice())
         }
-        (Some(more), None) | (None, Some(more)) => {
-            let names = [improve.instance, improve.out, more];
+        (Some(one), None) | (None, Some(one)) => {
+            let names = [instance, one];
             all_differ(names.as_slice())
         }
         (None, None) => {
-            let names = [improve.instance, improve.out];
+            let names = [instance];
             all_differ(names.as_slice())
         }
     }
+}
+
+// The names of the files differ, but for a start that is the file of the solution.
+fn names_differ(improve: &Improve) -> bool
+    ensures { result ≡ are_names_apart (improve_call improve.now) }
+{
+    differ(improve.instance, Some(improve.out), improve.draft)
+        && differ(improve.instance, improve.start.file, improve.draft)
 }
 
 // The attempts of each worker, where they are given.
@@ -241,12 +296,22 @@ fn are_settings_lawful(improve: &Improve) -> bool
     are_few(workers, attempts) && is_falling(&improve.settings)
 }
 
+// Changes weigh something, and choices are pinned, only where the timetable of a file is taken as it is.
+fn keeps_a_file(matches: &ArgMatches) -> bool
+    ensures { result ≡ keeps_a_file (rows_of (found_of matches.now)) }
+{
+    !(is_given(matches, "keep") || (is_given(matches, "pin") || flag_of(matches, "pin-nurses")))
+        || takes_a_file(matches)
+}
+
 // No option is given with another that it can't be used with.
 fn are_options_apart(matches: &ArgMatches) -> bool
     ensures { result ≡ are_options_apart (rows_of (found_of matches.now)) }
 {
-    !(is_given(matches, "attempts") && is_given(matches, "seconds"))
-        && !(flag_of(matches, "empty") && (flag_of(matches, "fill") || is_given(matches, "start")))
+    keeps_a_file(matches)
+        && (!(is_given(matches, "attempts") && is_given(matches, "seconds"))
+            && !(flag_of(matches, "empty")
+                && (flag_of(matches, "fill") || is_given(matches, "start"))))
 }
 
 // What is unlawful of the values, where something is.
@@ -254,11 +319,13 @@ fn fault_in(matches: &ArgMatches, improve: &Improve) -> Option<&'static str>
     requires { AreOptionsWithin (improve_call improve.now) }
     ensures value { not (is_some result) ≡ (freezes_a_file (rows_of (found_of matches.now))
         && (are_options_apart (rows_of (found_of matches.now))
-        && (all_differ (improve_files (improve_call improve.now)) && are_settings_lawful (improve_call improve.now)))) }
+        && (are_names_apart (improve_call improve.now) && are_settings_lawful (improve_call improve.now)))) }
     ensures lawful { not (is_some result) ≡ true → IsLawfulCall (improve_call improve.now) }
 {
     if !freezes_a_file(matches) {
         Some("'--freeze' needs '--start', and '--fill' can't be used with it")
+    } else if !keeps_a_file(matches) {
+        Some("'--keep' and '--pin' need '--start', and '--fill' can't be used with them")
     } else if !are_options_apart(matches) {
         Some(
             "'--seconds' can't be used with '--attempts', nor '--empty' with '--start' or '--fill'",
@@ -280,7 +347,7 @@ pub(crate) fn read_improve<'a>(alloc: Global, words: &'a [String]) -> Result<Imp
 {
     match matched(alloc, &IMPROVE, words) {
         Ok(matches) => {
-            let improve = improve_in(&matches);
+            let improve = improve_in(&matches, texts_of(alloc, &matches, "pin")?);
             match fault_in(&matches, &improve) {
                 None => Ok(improve),
                 Some(fault) => Err(refused(alloc, fault)),

@@ -1,4 +1,5 @@
 use Rattle.std.proofs.Common.{List, Some, codes, map, refl, string_bytes, sym}
+use Rattle.std.proofs.lemmas.Result.{err_from_is_err_and}
 use Rattle.clap.specs.Words.{Row, found_of, rows_of}
 use Rattle.clap.proofs.OnLiterals.{clap_on_literals}
 use Rattle.ih_plan.specs.declared.limits.TheConstants.{MAX_HARD, MAX_HEAT, MAX_WORKERS}
@@ -6,19 +7,20 @@ use Rattle.ih_arguments.specs.Arguments.{named, optional_any, optional_between, 
 use Rattle.ih_arguments.specs.Distinct.{all_differ}
 use Rattle.ih_plan.specs.declared.limits.TheConstants.{MAX_FREEZE}
 use Rattle.ih_arguments.proofs.DescriptionRules.{requires_name, takes_between, takes_number}
+use Rattle.ih_improve.specs.declared.settings.TheConstants.{MAX_KEEP}
 use Rattle.ih_planning.specs.Calls.Improve.{ImproveCall, improve_app, improve_call, lawful_improve}
 use Rattle.ih_planning.specs.declared.pacing.TheConstants.{MAX_CALL_ROUNDS, MAX_SECONDS}
 use Rattle.ih_planning.proofs.SettingsRead.{lawful-call, unlawful-call}
-use Rattle.ih_arguments.proofs.WordsRead.{asked-matches, explained-read, refused-read}
+use Rattle.ih_arguments.proofs.WordsRead.{asked-matches, explained-read, memory-read, refused-read}
 use Rattle.ih_planning.proofs.command.improve_words.read_improve.Goals as goal
 
 pub matched-requires : goal.matched-requires
 unfolding clap_on_literals improve_app all_differ
 matched-requires c = record { simple = refl; independent = refl }
 
-pub improve_in-improve-requires : goal.improve_in-improve-requires
+pub improve_in-improve-requires-clause-rows : goal.improve_in-improve-requires-clause-rows
 unfolding improve_app
-improve_in-improve-requires c = record {
+improve_in-improve-requires-clause-rows c = record {
   instance = c.in-Ok.ensures.matched.texts 0 (named (codes "INSTANCE")) (requires_name refl);
   out = c.in-Ok.ensures.matched.texts 1 (named (codes "OUT")) (requires_name refl);
   seconds = c.in-Ok.ensures.matched.optional 2 (optional_between (codes "seconds") 1 MAX_SECONDS) 1 MAX_SECONDS (takes_between refl);
@@ -30,7 +32,14 @@ improve_in-improve-requires c = record {
   cold = c.in-Ok.ensures.matched.optional 8 (optional_number (codes "cold") MAX_HEAT) 0 MAX_HEAT (takes_number refl);
   hard = c.in-Ok.ensures.matched.optional 9 (optional_number (codes "hard") MAX_HARD) 0 MAX_HARD (takes_number refl);
   freeze = c.in-Ok.ensures.matched.optional 11 (optional_number (codes "freeze") MAX_FREEZE) 0 MAX_FREEZE (takes_number refl);
+  keep = c.in-Ok.ensures.matched.optional 16 (optional_number (codes "keep") MAX_KEEP) 0 MAX_KEEP (takes_number refl);
 }
+
+pub returns-in_err-texts_of-in-Ok-clause-read : goal.returns-in_err-texts_of-in-Ok-clause-read
+unfolding improve_app
+returns-in_err-texts_of-in-Ok-clause-read c =
+    let p = err_from_is_err_and c.from_residual.result c.from_residual.ensures.1 in
+    rw p.1 (memory-read improve_app (map string_bytes c.args.words.now) ImproveCall lawful_improve p.0 p.2)
 
 pub returns-in-None-clause-read : goal.returns-in-None-clause-read
 unfolding improve_app
