@@ -16,29 +16,29 @@ report 0 0 0 0 0 0 0 0 0, 0 1 1 0 0 0 0 0, 12
 > is o
 = covered
 > # the fault comes up with the next write
-> says 6 improve i p --seed 0 --workers 1 --attempts 1000 --rounds 2 --hot 0 --cold 0 --empty
+> says 6 improve i p --seed 0 --workers 1 --attempts 1000 --rounds 2 --hot 0 --cold 0 --empty --replace
 cannot write p
 > alike
-improve i o --seed 0 --workers 1 --attempts 1000 --rounds 2 --hot 0 --cold 0 --empty
-improve i p --seed 0 --workers 1 --attempts 1000 --rounds 2 --hot 0 --cold 0 --start s
+improve i o --seed 0 --workers 1 --attempts 1000 --rounds 2 --hot 0 --cold 0 --empty --replace
+improve i p --seed 0 --workers 1 --attempts 1000 --rounds 2 --hot 0 --cold 0 --start s --keep 0 --replace
 > same o p
-> cut 1 6 improve i q --seed 0 --workers 1 --attempts 1000 --rounds 2 --hot 0 --cold 0 --empty
+> cut 1 6 improve i q --seed 0 --workers 1 --attempts 1000 --rounds 2 --hot 0 --cold 0 --empty --replace
 > is q
 = covered
-> cut 2 6 improve i q --seed 0 --workers 1 --attempts 1000 --rounds 2 --hot 0 --cold 0 --empty
+> cut 2 6 improve i q --seed 0 --workers 1 --attempts 1000 --rounds 2 --hot 0 --cold 0 --empty --replace
 round 1 of 2: 500 attempts, cost 12, heat 0
-> cut 3 6 improve i q --seed 0 --workers 1 --attempts 1000 --rounds 2 --hot 0 --cold 0 --empty
+> cut 3 6 improve i q --seed 0 --workers 1 --attempts 1000 --rounds 2 --hot 0 --cold 0 --empty --replace
 round 1 of 2: 500 attempts, cost 12, heat 0
 round 2 of 2: 1000 attempts, cost 12, heat 0
 > store r
 an older plan
-> says 5 improve i r --seed 0 --workers 2 --attempts 100 --rounds 1 --hot 0 --cold 0 --start s --freeze 1
+> says 5 improve i r --seed 0 --workers 2 --attempts 100 --rounds 1 --hot 0 --cold 0 --start s --keep 0 --freeze 1 --replace
 round 1 of 1: 200 attempts, none yet, heat 0
 none found
 > is r
 an older plan
 > lay ward covered-start
-> says 0 improve i r --seed 0 --workers 2 --attempts 100 --rounds 1 --hot 0 --cold 0 --start s --freeze 1
+> says 0 improve i r --seed 0 --workers 2 --attempts 100 --rounds 1 --hot 0 --cold 0 --start s --keep 0 --freeze 1 --replace
 round 1 of 1: 200 attempts, cost 12, heat 0
 V1 0
 …
@@ -57,7 +57,7 @@ fn a_ward_is_improved(rt: HostRuntime) {
 // mandatory patient's surgeon never works, nothing is found and nothing is written.
 const ON_TWO: &str = r#"
 > lay two uncovered
-> says 0 improve i o --seed 0 --workers 1 --attempts 2000 --rounds 2 --hot 50 --cold 1 --start s
+> says 0 improve i o --seed 0 --workers 1 --attempts 2000 --rounds 2 --hot 50 --cold 1 --start s --keep 0
 round 1 of 2: 1000 attempts, cost 70, heat 7
 round 2 of 2: 2000 attempts, cost 70, heat 1
 report 0 0 0 0 0 0 0 0 0, 0 0 3 0 2 0 1 0, 70
@@ -66,7 +66,7 @@ no feasible timetable costs less than 56
 …
 this one costs 70, at most 25.0 % above the best
 > lay two admitted
-> says 0 improve i o --seed 0 --workers 2 --attempts 2000 --rounds 2 --hot 0 --cold 0 --start s --freeze 1
+> says 0 improve i o --seed 0 --workers 2 --attempts 2000 --rounds 2 --hot 0 --cold 0 --start s --keep 0 --freeze 1 --replace
 round 1 of 2: 2000 attempts, cost 95, heat 0
 round 2 of 2: 4000 attempts, cost 95, heat 0
 report 0 0 0 0 0 0 0 0 0, 1 2 3 0 2 0 1 0, 95
@@ -77,7 +77,7 @@ report 0 0 0 0 0 0 0 0 0, 1 2 3 0 2 0 1 0, 95
 "max_surgery_time":[0,0]
 > store o
 an older plan
-> says 5 improve i o --seed 0 --workers 2 --attempts 200 --rounds 2 --hot 0 --cold 0 --empty
+> says 5 improve i o --seed 0 --workers 2 --attempts 200 --rounds 2 --hot 0 --cold 0 --empty --replace
 round 1 of 2: 200 attempts, none yet, heat 0
 round 2 of 2: 400 attempts, none yet, heat 0
 none found
@@ -95,12 +95,12 @@ fn two_patients_are_improved(rt: HostRuntime) {
 const WRITES: &str = r#"
 > lay two admitted
 > fail-write 1 9
-> says 6 improve i o --seed 0 --workers 1 --attempts 99 --rounds 100 --hot 0 --cold 0 --start s
+> says 6 improve i o --seed 0 --workers 1 --attempts 99 --rounds 100 --hot 0 --cold 0 --start s --keep 0 --replace
 cannot write o
 > is o
 {"nurses"
 > fail-write 3 5
-> says 6 improve i o --seed 0 --workers 1 --attempts 99 --rounds 100 --hot 0 --cold 0 --start s
+> says 6 improve i o --seed 0 --workers 1 --attempts 99 --rounds 100 --hot 0 --cold 0 --start s --keep 0 --replace
 round 1 of 100: 0 attempts, cost 159, heat 0
 …
 round 14 of 100: 13 attempts, cost 159, heat 0
@@ -108,24 +108,24 @@ cannot write o
 > is o
 {"nur
 > fail-write 6 0
-> says 6 improve i o --seed 0 --workers 1 --attempts 99 --rounds 100 --hot 0 --cold 0 --start s
+> says 6 improve i o --seed 0 --workers 1 --attempts 99 --rounds 100 --hot 0 --cold 0 --start s --keep 0 --replace
 round 1 of 100: 0 attempts, cost 159, heat 0
 …
 round 31 of 100: 30 attempts, cost 158, heat 0
 cannot write o
 > is o
 > fail-write 10 0
-> says 6 improve i o --seed 0 --workers 1 --attempts 99 --rounds 100 --hot 0 --cold 0 --start s
+> says 6 improve i o --seed 0 --workers 1 --attempts 99 --rounds 100 --hot 0 --cold 0 --start s --keep 0 --replace
 round 1 of 100: 0 attempts, cost 159, heat 0
 …
 round 50 of 100: 49 attempts, cost 140, heat 0
 cannot write o
 > fail-write 15 5
-> says 0 improve i o --seed 0 --workers 1 --attempts 99 --rounds 100 --hot 0 --cold 0 --start s
+> says 0 improve i o --seed 0 --workers 1 --attempts 99 --rounds 100 --hot 0 --cold 0 --start s --keep 0 --replace
 round 1 of 100: 0 attempts, cost 159, heat 0
 …
 cost 138
-> says 6 improve i p --seed 0 --workers 1 --attempts 99 --rounds 100 --hot 0 --cold 0 --start s
+> says 6 improve i p --seed 0 --workers 1 --attempts 99 --rounds 100 --hot 0 --cold 0 --start s --keep 0 --replace
 cannot write p
 > is p
 {"nur
@@ -140,33 +140,33 @@ fn each_write_fails_in_turn(rt: HostRuntime) {
 const ALIKE: &str = "
 > store i
 = two
-> says 0 improve i o --seed 7 --workers 3 --attempts 200 --rounds 4 --fill
+> says 0 improve i o --seed 7 --workers 3 --attempts 200 --rounds 4 --fill --replace
 round 1 of 4: 150 attempts, cost …
 > alike
-improve i o --seed 7 --workers 1 --attempts 200 --rounds 4 --fill
-improve i p --seed 7 --workers 1 --attempts 200 --rounds 4 --fill
+improve i o --seed 7 --workers 1 --attempts 200 --rounds 4 --fill --replace
+improve i p --seed 7 --workers 1 --attempts 200 --rounds 4 --fill --replace
 > same o p
 > alike
-improve i o --seed 7 --workers 3 --attempts 200 --rounds 4 --fill
-improve i p --seed 7 --workers 3 --attempts 200 --rounds 4 --fill
+improve i o --seed 7 --workers 3 --attempts 200 --rounds 4 --fill --replace
+improve i p --seed 7 --workers 3 --attempts 200 --rounds 4 --fill --replace
 > same o p
 > alike
-improve i o --seed 7 --workers 64 --attempts 50 --rounds 4 --fill
-improve i p --seed 7 --workers 64 --attempts 50 --rounds 4 --fill
+improve i o --seed 7 --workers 64 --attempts 50 --rounds 4 --fill --replace
+improve i p --seed 7 --workers 64 --attempts 50 --rounds 4 --fill --replace
 > same o p
 > # a theatre costs more than the broken rule of a mandatory patient who stays out, if that weighs 1000, so only twice
 > # the greatest weight finds a plan: the optional patient stays out; the middle weight is 5
 > change i two
 \"open_operating_theater\":30
 \"open_operating_theater\":30000
-> says 0 improve i o --seed 7 --workers 1 --attempts 2000 --rounds 2 --empty
+> says 0 improve i o --seed 7 --workers 1 --attempts 2000 --rounds 2 --empty --replace
 round 1 of 2: 1000 attempts, cost …
 cost 30108
 > alike
-improve i o --seed 7 --workers 1 --attempts 2000 --rounds 2 --empty
-improve i p --seed 7 --workers 1 --attempts 2000 --rounds 2 --hot 10 --cold 1 --hard 60000 --empty
+improve i o --seed 7 --workers 1 --attempts 2000 --rounds 2 --empty --replace
+improve i p --seed 7 --workers 1 --attempts 2000 --rounds 2 --hot 10 --cold 1 --hard 60000 --empty --replace
 > same o p
-> says 5 improve i o --seed 7 --workers 1 --attempts 2000 --rounds 2 --hard 1000 --empty
+> says 5 improve i o --seed 7 --workers 1 --attempts 2000 --rounds 2 --hard 1000 --empty --replace
 round 1 of 2: 1000 attempts, none yet, heat …
 none found
 > same o p
@@ -192,14 +192,14 @@ improve i o --seed 0 --workers 1 --attempts 1 --rounds 10001
 improve i o --seed 0 --workers 1 --attempts 1 --rounds 0
 improve i o --seed 0 --workers 1 --attempts 1 --hot 1000001
 improve i o --seed 0 --workers 1 --attempts 1 --hard 1000001
-improve i o --seed 0 --workers 1 --attempts 1 --start s --freeze 57
+improve i o --seed 0 --workers 1 --attempts 1 --start s --keep 0 --freeze 57
 improve i o --seed 0 --workers 1 --attempts 1 --freeze 1
 improve i i --seed 0 --workers 1 --attempts 1
 > no o
 > each 2 cannot read k
 improve k o --seed 18446744073709551615 --workers 64 --attempts 15625000000 --rounds 10000
 improve k o --seed 0 --workers 1 --attempts 1000000000000 --hot 1000000 --cold 1000000 --hard 1000000
-improve k o --seed 0 --workers 1 --attempts 1 --start s --freeze 56
+improve k o --seed 0 --workers 1 --attempts 1 --start s --keep 0 --freeze 56
 ";
 
 #[test]
@@ -210,7 +210,7 @@ fn words_of_improve(rt: HostRuntime) {
 // Where no feasible timetable is met, the draft gets the best of the others, and OUT stays. Where one is, there is none.
 const DRAFTS: &str = r#"
 > lay two uncovered
-> says 0 improve i o --attempts 2000 --workers 1 --start s --draft d
+> says 0 improve i o --attempts 2000 --workers 1 --start s --keep 0 --draft d
 round 1 of 20: 100 attempts, …
 > no d
 > change i two
@@ -218,7 +218,7 @@ round 1 of 20: 100 attempts, …
 "max_surgery_time":[0,0]
 > store o
 an older plan
-> says 5 improve i o --attempts 200 --rounds 2 --workers 2 --hot 0 --cold 0 --empty --draft d
+> says 5 improve i o --attempts 200 --rounds 2 --workers 2 --hot 0 --cold 0 --empty --draft d --replace
 round 1 of 2: 200 attempts, none yet, heat 0
 round 2 of 2: 400 attempts, none yet, heat 0
 none found
@@ -232,13 +232,13 @@ an older plan
 "max_surgery_time":[100,100]
 "max_surgery_time":[0,0]
 > fail-write 1 0
-> says 6 improve i o --attempts 200 --rounds 2 --workers 2 --hot 0 --cold 0 --empty --draft e
+> says 6 improve i o --attempts 200 --rounds 2 --workers 2 --hot 0 --cold 0 --empty --draft e --replace
 round 1 of 2: …
 cannot write e
 > each 1 error: …'--help'.
 improve i o --draft o
 improve i o --draft i
-improve i o --start s --draft s
+improve i o --start s --keep 0 --draft s
 "#;
 
 #[test]

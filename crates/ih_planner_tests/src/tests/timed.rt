@@ -17,19 +17,19 @@ report 0 0 0 0 0 0 0 0 0, 0 1 1 0 0 0 0 0, 12
 > is o
 = covered
 > alike
-improve i o --seconds 10 --seed 1 --workers 2 --empty
-improve i p --seconds 10 --workers 2 --rounds 40 --empty
+improve i o --seconds 10 --seed 1 --workers 2 --empty --replace
+improve i p --seconds 10 --workers 2 --rounds 40 --empty --replace
 > same o p
 > alike
-improve i o --seconds 10 --workers 1
-improve i p --seconds 10 --workers 1 --fill
+improve i o --seconds 10 --workers 1 --replace
+improve i p --seconds 10 --workers 1 --fill --replace
 > same o p
 > each 1 error: …'--help'.
 improve i o --seconds 1 --attempts 1
 improve i o --seconds 0
 improve i o --seconds 604801
 improve i o --empty --fill
-improve i o --empty --start s
+improve i o --empty --start s --keep 0
 improve i o --freeze 1
 ";
 
@@ -56,7 +56,7 @@ fn two_names_are_enough(rt: HostRuntime) {
 // The last fiftieth of the time is one round at heat 0, however hot the others are.
 const COLD_AT_LAST: &str = "
 > lay two uncovered
-> says 0 improve i o --seconds 10 --seed 0 --workers 1 --hot 50 --cold 50 --start s
+> says 0 improve i o --seconds 10 --seed 0 --workers 1 --hot 50 --cold 50 --start s --keep 0
 round 1: 1000 attempts, cost 70, heat …
 round 3: 1053 attempts, cost 70, heat 0, 0 s left, 0 attempts a second
 report 0 0 0 0 0 0 0 0 0, 0 0 3 0 2 0 1 0, 70
