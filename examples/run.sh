@@ -62,4 +62,4 @@ echo "Searched on from there, with days 0 and 1 as they are:"
 echo
 echo "Made better by the planners' program, with days 0 and 1 as they are:"
 "$planner" improve "$ward" "$work/best.json" --seed 1 --workers 2 --attempts 50000 --rounds 4 \
-  --start "$work/solution.json" --freeze 2 | sed -n '1,4p;$p'
+  --start "$work/solution.json" --freeze 2 --keep 0 | sed -n '1,4p;$p'
