@@ -1,4 +1,5 @@
 pub mod Arrivals
+pub mod Mending
 pub mod Moments
 pub mod NewStays
 pub mod Pairs

@@ -9,7 +9,7 @@ use crate::room_days::{RoomDay, person_at};
 use crate::situation::Situation;
 use ih_moves::Chain;
 use ih_plan::{Members, Move, Placement, end_of};
-use ih_tables::{Day, Instance, PatientNo, PersonNo};
+use ih_tables::{Day, Instance, PatientNo, PersonNo, RoomNo};
 use ih_validate::is_incompatible;
 
 // Whether a placement of the patient has the room on the day.
@@ -62,16 +62,38 @@ fn beds_beside(
     left
 }
 
+// So many of those in the room may be gone at most once the attempt is made: two by each of its moves, and the patient.
+fn most_gone(here: &Situation<'_>, patient: PatientNo, room: RoomNo, attempt: &Chain) -> u32
+    requires { patient.0 < patient_count here.now.inst.now.draft }
+{
+    let own = match here.stay(patient) {
+        Some(at) if at.room == room => 1,
+        _ => 0,
+    };
+    (attempt.len() as u32).saturating_mul(2).saturating_add(own)
+}
+
 // Whether the room has a bed for the patient on the day once the attempt is made, which moves the patient too or
-// doesn't yet: those who are there have the patient's gender.
-fn has_bed(here: &Situation<'_>, patient: PatientNo, there: RoomDay, attempt: &Chain) -> bool
+// doesn't yet: those who are there have the patient's gender. So many of those may be gone then. That is looked at
+// first, since most rooms are full.
+fn has_bed(
+    here: &Situation<'_>,
+    patient: PatientNo,
+    there: RoomDay,
+    attempt: &Chain,
+    gone: u32,
+) -> bool
     requires patient { patient.0 < patient_count here.now.inst.now.draft }
     requires there { IsRoomDay here.now.inst.now.draft there }
     requires moves { AreMoves here.now.inst.now.draft attempt.now }
 {
     let rooms = here.room_days();
     let mut beds = here.inst.room(there.room).capacity;
-    for i in 0..rooms.count(there.room, there.day) {
+    let count = rooms.count(there.room, there.day);
+    if beds.saturating_add(gone) <= count {
+        return false;
+    }
+    for i in 0..count {
         let x = person_at(here.inst, rooms, there, i);
         if x.0 != patient.0 && !attempt.moves_person(x) {
             if beds == 0 || !rooms.same_gender(PersonNo(patient.0), x) {
@@ -93,12 +115,13 @@ pub fn fits(here: &Situation<'_>, patient: PatientNo, at: Placement, attempt: &C
     if is_incompatible(here.inst.patient(patient), at.room) {
         return false;
     }
+    let gone = most_gone(here, patient, at.room, attempt);
     for d in at.day.0..end_of(here.inst, patient, at) {
         let there = RoomDay {
             room: at.room,
             day: Day(d),
         };
-        if !has_bed(here, patient, there, attempt) {
+        if !has_bed(here, patient, there, attempt, gone) {
             return false;
         }
     }

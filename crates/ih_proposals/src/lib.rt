@@ -9,6 +9,7 @@ mod clearing;
 mod ejection;
 mod kempe;
 mod leaving;
+mod mending;
 mod mix;
 mod moments;
 mod new_stays;
@@ -27,5 +28,6 @@ mod swap;
 mod theatres;
 mod words;
 
+pub use mending::{Mend, breaks_rule, mend_shift, mend_stay};
 pub use proposing::{propose, repair};
 pub use words::RandomWords;
