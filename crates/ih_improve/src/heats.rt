@@ -12,7 +12,7 @@ use ih_tables::Instance;
 
 // With so many persons or fewer each worker begins at the weight of a patient who is left out.
 const FEW_PERSONS: u64 = 40;
-// Of so many workers the second begins there on every ward.
+// Of so many workers the second begins hotter on wards with more.
 const WORKERS_A_HOT_ONE: usize = 4;
 
 /// Heats that fall geometrically from one to another.
@@ -57,24 +57,27 @@ impl Cooling {
     }
 }
 
-// The heat from which a worker leaves a start behind on a ward like this: the weight of a patient who is left out, and
-// less for most workers where there are many persons, since attempts are then scarce.
+// The heat from which a worker leaves a start behind on a ward like this: the weight of a patient who is left out. Where
+// there are more persons attempts are scarce, so it falls with their number, for most workers with its square.
 fn heat_of_ward(inst: &Instance, worker_no: usize) -> u32 {
     let left_out = inst.weights().w[7].unsigned_abs().min(100_000);
-    if worker_no % WORKERS_A_HOT_ONE == 1 {
-        return left_out as u32;
-    }
     let persons = u64::from(inst.persons()).max(FEW_PERSONS).min(10_000);
-    let less = left_out * (FEW_PERSONS * FEW_PERSONS) / (persons * persons).max(1);
-    less.min(left_out) as u32
+    let one = left_out * FEW_PERSONS / persons.max(1);
+    let heat = if worker_no % WORKERS_A_HOT_ONE == 1 {
+        one
+    } else {
+        one * FEW_PERSONS / persons.max(1)
+    };
+    heat.min(left_out) as u32
 }
 
-// The heat at a worker's first attempt. Where both heats are those of the weights it is that of the ward, if that is
-// more; but where changes count the search stays near the start.
+// The heat at a worker's first attempt. Where both heats are those of the weights it is half more, or that of the ward, if
+// that is more; but where changes count the search stays near the start.
 fn first_heat(inst: &Instance, settings: &Settings, worker_no: usize) -> u32 {
     let usual = Defaults::by_weights(inst);
     if settings.keep == 0 && settings.hot == usual.hot && settings.cold == usual.cold {
-        settings.hot.max(heat_of_ward(inst, worker_no))
+        let hot = settings.hot.saturating_add(settings.hot / 2);
+        hot.max(heat_of_ward(inst, worker_no))
     } else {
         settings.hot
     }

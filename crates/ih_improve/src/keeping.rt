@@ -12,8 +12,8 @@ use crate::settings::Settings;
 use ih_plan::{Move, Plan, Write, frozen};
 use ih_tables::{Instance, PatientNo};
 
-// Whether the start admits the patient before the freeze day.
-fn is_early(inst: &Instance, start: &Plan, freeze: u32, patient: PatientNo) -> bool
+/// Whether the start admits the patient before the freeze day.
+pub(crate) fn is_early(inst: &Instance, start: &Plan, freeze: u32, patient: PatientNo) -> bool
     requires start { IsPlanOf inst.now.draft start.now }
     requires patient { patient.0 < patient_count inst.now.draft }
     ensures { result ≡ is_before freeze (stay_of start.now patient.0) }

@@ -12,6 +12,7 @@ mod keeping;
 mod laws;
 mod legs;
 mod logarithms;
+mod mending;
 mod pins;
 mod rounds;
 mod settings;

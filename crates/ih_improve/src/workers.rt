@@ -7,6 +7,7 @@ use crate::accepting::most_accepted;
 use crate::heats::Pace;
 use crate::keeping::any_kept;
 use crate::legs::Leg;
+use crate::mending::mend;
 use crate::rounds::Walks;
 use crate::walkers::Walker;
 use ih_changes::{has_another, is_changed};
@@ -203,8 +204,8 @@ impl<'a> ImproveWorker<'a> {
         }
     }
 
-    // One attempt at this move.
-    fn make_move(&mut self, leg: &Leg<'_>, pace: &Pace, mv: Move, most: i64)
+    /// One attempt at this move.
+    pub(crate) fn make_move(&mut self, leg: &Leg<'_>, pace: &Pace, mv: Move, most: i64)
         requires underway { IsUnderway leg.now self.old.walker }
         requires inside { IsMoveOf leg.now.instance mv }
         ensures { IsUnderway leg.now self.new.walker }
@@ -276,6 +277,11 @@ impl<'a> ImproveWorker<'a> {
         }
     }
 
+    // Whether the start breaks rules that are to be mended by few changes.
+    fn begins_broken(&self, leg: &Leg<'_>) -> bool {
+        leg.settings().keep > 0 && leg.round() == 0 && !self.walker.bill().feasible()
+    }
+
     // Leaves what the round began with, unless the best that was met is better by its changes, which are counted anew.
     fn settle(&mut self, leg: &Leg<'_>)
         requires { IsUnderway leg.now self.old.walker }
@@ -308,6 +314,9 @@ impl<'a> Walks for ImproveWorker<'a> {
         self.begin_round(leg, &pace);
         if self.begins_empty(leg, worker_no) {
             self.take_all_out(leg, &pace);
+        }
+        if self.begins_broken(leg) {
+            mend(leg, &pace, self);
         }
         self.attempt_all(leg, &pace);
         if leg.settings().keep > 0 {
