@@ -1,0 +1,3 @@
+pub mod DateSteps
+pub mod ReadBack
+pub mod RowSteps

@@ -1,0 +1,4 @@
+pub mod Dates
+pub mod Laws
+pub mod Rows
+pub mod Sheets

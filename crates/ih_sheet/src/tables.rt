@@ -1,0 +1,56 @@
+//! The table of a timetable.
+
+ghost use Rattle.std.specs.Prelude.{◌≡◌, IfOk, map};
+ghost use Rattle.csv.specs.Records.{fields_of};
+ghost use Rattle.ih_plan.specs.Timetable.{IsPlanOf};
+ghost use Rattle.ih_sheet.specs.Sheets.{IsTable, rows_of};
+
+use crate::dates::dates_of;
+use crate::nurses::nurse_rows;
+use crate::patients::patient_rows;
+use crate::rooms::room_rows;
+use crate::sheets::sheet_text;
+use crate::shown::Shown;
+use crate::subjects::Subject;
+use crate::surgeries::surgery_rows;
+use csv::StringRecord;
+use ih_plan::Plan;
+use ih_tables::Instance;
+use jiff::civil::Date;
+use std::alloc::{AllocError, Global};
+
+// The heading and the rows of a subject.
+fn rows_of(alloc: Global, of: Subject, shown: &Shown<'_>) -> Result<Vec<StringRecord>, AllocError>
+    ensures { IfOk result (λ rows. map fields_of rows.items
+        ≡ rows_of of shown.now.inst.now.draft shown.now.dates.now shown.now.plan.now) }
+{
+    match of {
+        Subject::Patients => patient_rows(alloc, shown),
+        Subject::Nurses => nurse_rows(alloc, shown),
+        Subject::Rooms => room_rows(alloc, shown),
+        Subject::Theatres => surgery_rows(alloc, shown),
+    }
+}
+
+/// The table of a timetable of the instance: comma-separated values with a heading, which spreadsheets take.
+///
+/// Where the date of the first day is known, days have dates.
+pub fn table(
+    alloc: Global,
+    of: Subject,
+    inst: &Instance,
+    plan: &Plan,
+    first: Option<Date>,
+) -> Result<Vec<u8>, AllocError>
+    requires { IsPlanOf inst.now.draft plan.now }
+    ensures { IfOk result (λ text. IsTable of inst.now.draft first plan.now text.items) }
+{
+    let dates = dates_of(alloc, first, inst.days())?;
+    let shown = Shown {
+        inst,
+        plan,
+        dates: dates.as_slice(),
+    };
+    let rows = rows_of(alloc, of, &shown)?;
+    sheet_text(alloc, rows.as_slice())
+}
