@@ -13,12 +13,15 @@ parts_text p =
     codes "delay " ++ (decimal p.delay ++ (codes ", left out " ++ (decimal p.left_out
     ++ (codes ", theatres " ++ (decimal p.theatres ++ (codes ", nurses " ++ decimal p.nurses))))))
 
--- what holds of all feasible timetables
-abbrev pub outcome_text : Outcome → List ℕ
-outcome_text Infeasible = codes "no feasible timetable exists\n"
-outcome_text (AtLeast b) =
-    codes "no feasible timetable costs less than " ++ (decimal b.value ++ (codes "\n" ++ (parts_text b.parts
-    ++ (codes "; rounds " ++ (decimal b.rounds ++ codes "\n")))))
+-- in one line, what no feasible timetable costs less than, or that there is none
+abbrev pub limit_line : Outcome → List ℕ
+limit_line Infeasible = codes "no feasible timetable exists\n"
+limit_line (AtLeast b) = codes "no feasible timetable costs less than " ++ (decimal b.value ++ codes "\n")
+
+-- where the bound comes from, and in how many rounds it was found
+abbrev pub origin_line : Outcome → List ℕ
+origin_line Infeasible = []
+origin_line (AtLeast b) = parts_text b.parts ++ (codes "; rounds " ++ (decimal b.rounds ++ codes "\n"))
 
 -- by how many thousandths so much is above the least that it can be, rounded up
 abbrev pub above : ℕ → ℕ → ℕ
@@ -51,4 +54,4 @@ judged_text (Some j) outcome = plan_text j outcome
 
 -- what is said of all feasible timetables, and of the one that was judged, if any
 unfoldable pub bound_text : Option Judged → Outcome → List ℕ
-bound_text judged outcome = outcome_text outcome ++ judged_text judged outcome
+bound_text judged outcome = limit_line outcome ++ (origin_line outcome ++ judged_text judged outcome)

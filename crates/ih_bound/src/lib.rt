@@ -23,4 +23,4 @@ mod texts;
 pub use bounding::bound;
 pub use judging::{Judged, judge, no_infeasibility};
 pub use outcomes::{Bound, Outcome, Parts};
-pub use texts::bound_text;
+pub use texts::{bound_text, put_gap, put_limit};

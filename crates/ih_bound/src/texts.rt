@@ -1,8 +1,8 @@
 //! What is said of a bound, and of a timetable beside it.
 
 ghost use Rattle.std.specs.Prelude.{◌≡◌, ◌++◌, ◌<◌, decimal, IfOk, OnOk};
-ghost use Rattle.ih_bound.specs.Texts.{above, bound_text, gap_text, outcome_text, parts_text, percent_text};
-ghost use Rattle.ih_bound.specs.Texts.{judged_text, plan_text, share_text};
+ghost use Rattle.ih_bound.specs.Texts.{above, bound_text, gap_text, limit_line, origin_line, parts_text};
+ghost use Rattle.ih_bound.specs.Texts.{judged_text, percent_text, plan_text, share_text};
 
 use crate::judging::Judged;
 use crate::outcomes::{Outcome, Parts};
@@ -33,14 +33,26 @@ fn put_parts(out: &mut Vec<u8>, parts: &Parts) -> Result<(), AllocError>
     put_number(out, ", nurses ", parts.nurses)
 }
 
-fn put_outcome(out: &mut Vec<u8>, outcome: &Outcome) -> Result<(), AllocError>
-    ensures { OnOk result (out.new.items ≡ out.old.items ++ outcome_text outcome.now) }
+/// Appends in one line what no feasible timetable costs less than, or that there is none.
+pub fn put_limit(out: &mut Vec<u8>, outcome: &Outcome) -> Result<(), AllocError>
+    ensures { OnOk result (out.new.items ≡ out.old.items ++ limit_line outcome.now) }
 {
     match outcome {
         Outcome::Infeasible => put(out, "no feasible timetable exists\n"),
         Outcome::AtLeast(b) => {
             put_number(out, "no feasible timetable costs less than ", b.value)?;
-            put(out, "\n")?;
+            put(out, "\n")
+        }
+    }
+}
+
+// Appends where the bound comes from.
+fn put_origin(out: &mut Vec<u8>, outcome: &Outcome) -> Result<(), AllocError>
+    ensures { OnOk result (out.new.items ≡ out.old.items ++ origin_line outcome.now) }
+{
+    match outcome {
+        Outcome::Infeasible => Ok(()),
+        Outcome::AtLeast(b) => {
             put_parts(out, &b.parts)?;
             put_number(out, "; rounds ", b.rounds as u64)?;
             put(out, "\n")
@@ -73,7 +85,8 @@ fn put_share(out: &mut Vec<u8>, number: u128) -> Result<(), AllocError>
     put(out, " above the best")
 }
 
-fn put_gap(out: &mut Vec<u8>, cost: i64, least: u64) -> Result<(), AllocError>
+/// Appends how far a feasible timetable of this cost may be from the best; where the best may cost nothing, nothing.
+pub fn put_gap(out: &mut Vec<u8>, cost: i64, least: u64) -> Result<(), AllocError>
     ensures { OnOk result (out.new.items ≡ out.old.items ++ gap_text cost least) }
 {
     if least == 0 {
@@ -120,7 +133,8 @@ pub fn bound_text(
     ensures { IfOk result (λ v. v.items ≡ bound_text judged.now outcome.now) }
 {
     let mut out = Vec::new(alloc);
-    put_outcome(&mut out, outcome)?;
+    put_limit(&mut out, outcome)?;
+    put_origin(&mut out, outcome)?;
     put_judged(&mut out, judged, outcome)?;
     Ok(out)
 }

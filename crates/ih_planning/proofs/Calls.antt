@@ -24,7 +24,7 @@ use Rattle.ih_frame.specs.Steps.{BegunEnds}
 use Rattle.ih_frame.proofs.Complete.{accepted, command-answered, no-fault, reached, steps-answered}
 use Rattle.ih_frame.proofs.StepByStep.{one-within}
 use Rattle.ih_planning.specs.Calls.Bound.{judged_status}
-use Rattle.ih_planning.specs.Calls.{Call, IsAnswered, bound, carry, check, comes_to, improve, inputs_of, view}
+use Rattle.ih_planning.specs.Calls.{Call, IsAnswered, bound, carry, check, comes_to, improve, inputs_of, table, view}
 use Rattle.ih_planning.specs.Ends.{CallEnds, HasFewPuts, HasFiles, IsComplete, IsUntouched, Leaves, NoCallEnds}
 use Rattle.ih_planning.specs.Calls.Improve.{ImproveCall, improve_inputs, reading}
 use Rattle.ih_planning.specs.Pacing.{most_rounds}
@@ -70,14 +70,14 @@ improved c files new g has status text calm h = by_ends h.ends.ends
     read = subst (λ (b : Bool). HasGiven (Some files) (improve_inputs (reading b c)) g) (sym h.there) has
 
     by_ends : (IfTold Unchanged (Some files) new × PinsNobody (Some files) x status text)
-        ⊎ BegunEnds (IsSearch (Some files) x h.ends.held) (IsRound WorkerLeaves (task_of x h.ends.held)) (IsSearched (task_of x h.ends.held))
+        ⊎ BegunEnds (IsSearch (Some files) x h.ends.held h.ends.bound) (IsRound WorkerLeaves (task_of x h.ends.held h.ends.bound)) (IsSearched (task_of x h.ends.held h.ends.bound))
         (most_rounds c.pace.length c.pace.rounds) (improve_inputs x) (Some files) new status text → IsAnswered (improve c) status
     by_ends (inl (kept, nobody)) = inr (inr (inr (some-pinned nobody.instance c.pins nobody.id nobody.unknown, nobody.refused)))
     by_ends (inr (inl (kept, unread))) = over-answered c status (inr (inr (accepted files (improve_inputs x) g read status text calm unread)))
     by_ends (inr (inr (v, is, e))) =
-        over-answered c status (steps-answered (IsRound WorkerLeaves (task_of x h.ends.held)) (IsSearched (task_of x h.ends.held)) (most_rounds c.pace.length c.pace.rounds) v
+        over-answered c status (steps-answered (IsRound WorkerLeaves (task_of x h.ends.held h.ends.bound)) (IsSearched (task_of x h.ends.held h.ends.bound)) (most_rounds c.pace.length c.pace.rounds) v
         (Some files) new IsOver (λ y o z r. inl (ap (λ (p : OutcomeState). p.status) r.comes))
-        (λ y o over. searched-over (task_of x h.ends.held) y o over) (inr (inr refl)) status text calm e)
+        (λ y o over. searched-over (task_of x h.ends.held h.ends.bound) y o over) (inr (inr refl)) status text calm e)
 
 -- a status by a judgement
 judged : (works : Bool) (status : Status) → status ≡ judged_status works → (status ≡ Done) ⊎ (status ≡ Infeasible) ⊎ (status ≡ OutOfMemory)
@@ -91,6 +91,7 @@ answers (view v) = record { outcomes = λ g o is. inl (ap (λ (x : OutcomeState)
 answers (bound b) = record { outcomes = λ g o is. judged _ o.status (ap (λ (x : OutcomeState). x.status) is.said); memory = inr (inr refl) }
 answers (check c) = record { outcomes = λ g o is. judged _ o.status (ap (λ (x : OutcomeState). x.status) is); memory = inr (inr refl) }
 answers (carry c) = record { outcomes = λ g o is. inl (ap (λ (x : OutcomeState). x.status) is.written); memory = inr refl }
+answers (table t) = record { outcomes = λ g o is. inl (ap (λ (x : OutcomeState). x.status) is.written); memory = inr refl }
 
 -- each end of a call that no fault ended, and whose files are accepted, is an answer
 answered : (call : Call) (files : Names) (new : Option Names) → HasFiles call files → (status : Status) (text : List ℕ) → HasNoFault status
@@ -120,7 +121,7 @@ call-memory : (call : Call) (files : Option Names) → CallEnds call files files
 call-memory (improve c) files = by_files files
   where
     at : (found : Bool) (fs : Option Names) → SearchEnds (reading found c) fs fs OutOfMemory memory_text
-    at found fs = record { held = None; ends = inr (inl (told-same fs fs refl, unread-memory fs (improve_inputs (reading found c)))) }
+    at found fs = record { held = None; bound = None; ends = inr (inl (told-same fs fs refl, unread-memory fs (improve_inputs (reading found c)))) }
 
     by_files : (fs : Option Names) → ImproveEnds c fs fs OutOfMemory memory_text
     by_files None = record { found = false; there = tt; ends = at false None }

@@ -37,8 +37,8 @@ module _ (c : ImproveCall) (old new : Option Names) (same : IfTold Unchanged old
   Left s t = IfTold Unchanged old new × Nobody s t
 
   left-ends : (s : Status) (t : List ℕ) → Left s t → SearchEnds c old new s t
-  left-ends s t (kept, inl nobody) = record { held = None; ends = inl (kept, nobody) }
-  left-ends s t (kept, inr unread) = record { held = None; ends = inr (inl (kept, unread)) }
+  left-ends s t (kept, inl nobody) = record { held = None; bound = None; ends = inl (kept, nobody) }
+  left-ends s t (kept, inr unread) = record { held = None; bound = None; ends = inr (inl (kept, unread)) }
 
   -- an id that no patient has was said
   pub nobody-ended : (I : Draft) (given : Timetable) → HasInputs old (improve_inputs c) I given → (id : List ℕ) → first_unknown I c.pins ≡ Some id

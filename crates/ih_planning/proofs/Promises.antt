@@ -1,9 +1,10 @@
 -- What a call of improve leaves, once all its rounds are over.
 use Rattle.std.proofs.Common.{◌≡◌, ◌∙◌, ℕ, ◌+◌, ◌<◌, ◌≤◌, refl, sym, ap, subst, arith, inl, inr, Bool, true, false, List, [], ◌∷◌, ◌++◌, append_assoc, append-nil, length, Option, Some, None}
-use Rattle.std.specs.Prelude.{◌⊎◌, ◌&&◌, ◌*◌, IfSome, if◌then◌else◌}
+use Rattle.std.specs.Prelude.{codes, ◌⊎◌, ◌&&◌, ◌*◌, IfSome, if◌then◌else◌}
 use Rattle.std.proofs.lemmas.Bool.{and_parts}
 use Rattle.std.proofs.lemmas.Int.{ints}
 use Rattle.ih_tables.specs.Bills.{cost, feasible}
+use Rattle.ih_bound.specs.declared.outcomes.Outcome.{Outcome}
 use Rattle.ih_plan.specs.Timetable.{Timetable}
 use Rattle.ih_plan.specs.BillOf.{bill_of}
 use Rattle.ih_shelf.specs.Outside.{IfTold, IsWritten, Names}
@@ -30,7 +31,7 @@ use Rattle.ih_planning.specs.declared.pacing.Length.{Length}
 use Rattle.ih_planning.specs.declared.pacing.Length.TheVariants.{Attempts, Seconds}
 use Rattle.ih_planning.specs.Laws.{DoneCallsHaveImproved, IsDraft, IsDrafted, IsImproved, IsInOut, NoneFoundLeavesADraft, call_terms}
 use Rattle.ih_planning.specs.Pinning.{unknown_patient}
-use Rattle.ih_planning.specs.Rounds.{IsRound, IsSearched, SearchTask, beats, changes_text, draft_writes, end_text, goes_out, kept_line, stays, unfound}
+use Rattle.ih_planning.specs.Rounds.{IsRound, IsSearched, SearchTask, beats, changes_text, draft_writes, end_text, first_text, gap_so_far, goes_out, kept_line, round_line, stays, unfound}
 use Rattle.ih_planning.specs.Searching.{IsSearch, PinsNobody, SearchEnds, task_of}
 use Rattle.ih_planning.proofs.RoundsTaken.{came, holds}
 
@@ -65,9 +66,10 @@ second-fails : (a b : Bool) → a ≡ true → (a && b) ≡ false → b ≡ fals
 second-fails true b works h = h
 second-fails false b works h = absurd (let clash : false ≡ true = works in cc)
 
-module _ (c : ImproveCall) (held : Option Timetable) (old new : Option Names) (text : List ℕ) (v : ImproverState) (is : IsSearch old c held v) where
+module _ (c : ImproveCall) (held : Option Timetable) (bound : Option Outcome) (old new : Option Names) (text : List ℕ) (v : ImproverState)
+    (is : IsSearch old c held bound v) where
   abbrev task : SearchTask
-  task = task_of c held
+  task = task_of c held bound
 
   abbrev Ends : Status → Type 0
   Ends status = StepsEnds (IsRound Leaves task) (IsSearched task) (most_rounds c.pace.length c.pace.rounds) v old new status text
@@ -88,6 +90,19 @@ module _ (c : ImproveCall) (held : Option Timetable) (old new : Option Names) (t
   follows [] w some steps = absurd (omega (arith, some))
   follows (o ∷ rs) w some (u, before, r) =
       subst (λ (x : ImproverState). MayFollow (terms_of x) x.start w.kept) (came Leaves task v rs u before) r.follows
+
+  -- the first round tells first what no feasible timetable costs less than
+  told-first : (rs : List OutcomeState) (w : ImproverState) → 0 < length rs → AreSteps (IsRound Leaves task) v rs w
+      → (more : List ℕ) × (told rs ≡ first_text bound 1 ++ more)
+  told-first [] w some steps = absurd (omega (arith, some))
+  told-first (o ∷ []) w some (u, before, r) =
+      let first : w.rounds ≡ 1 =
+      ap (λ (x : ImproverState). x.rounds) r.next ∙ (ap (λ (x : ImproverState). x.rounds + 1) before ∙ ap (λ (n : ℕ). n + 1) none-yet) in
+      let rest : List ℕ = round_line c.pace w r.numbers ++ (gap_so_far bound w ++ codes "\n") in
+      (rest, ap (λ (x : OutcomeState). x.text) r.comes ∙ ap (λ (n : ℕ). first_text bound n ++ rest) first)
+  told-first (o ∷ (p ∷ rs)) w some (u, before, r) =
+      let earlier = told-first (p ∷ rs) u (omega arith) before in
+      (earlier.0 ++ o.text, ap (λ (t : List ℕ). t ++ o.text) earlier.1 ∙ append_assoc (first_text bound 1) earlier.0 o.text)
 
   -- where a feasible timetable stays, the best is none or no better
   held-no_worse : (w : ImproverState) (H : Timetable) → terms_of w ≡ terms_of v → held ≡ Some H → feasible (bill_of v.instance H) ≡ true
@@ -150,7 +165,7 @@ module _ (c : ImproveCall) (held : Option Timetable) (old new : Option Names) (t
     -- the timetable that OUT has, with what is known of it
     with-best : (P : Timetable) → feasible (bill_of v.instance P) ≡ true → IsNoDearer v.instance is.given P → IsInOut c v.instance v.start v.settings P old new
         → (before changes : List ℕ) → (changes ≡ []) ⊎ (changes ≡ changes_text v.settings.keep v.instance v.start P)
-        → text ≡ before ++ (report v.instance.weights (bill_of v.instance P) ++ changes) → IsImproved c old new text
+        → text ≡ first_text bound 1 ++ (before ++ (report v.instance.weights (bill_of v.instance P) ++ changes)) → IsImproved c old new text
     with-best P works no_dearer in_out before changes are told = record {
       instance = v.instance;
       given = is.given;
@@ -167,12 +182,23 @@ module _ (c : ImproveCall) (held : Option Timetable) (old new : Option Names) (t
       in_out = in_out;
       changes = changes;
       are_changes = are;
+      bound = bound;
+      limit = is.limit;
       told = (before, told);
     }
 
+    -- what the rounds tell begins so
+    abbrev first : (more : List ℕ) × (told e.taken.steps ≡ first_text bound 1 ++ more)
+    first = told-first e.taken.steps w some e.taken.are
+
+    abbrev more : List ℕ
+    more = first.0
+
     -- the text behind that of the rounds
-    said-last : (last : List ℕ) → o.text ≡ last → text ≡ told e.taken.steps ++ last
-    said-last last is_last = e.said ∙ ap (λ (t : List ℕ). told e.taken.steps ++ t) (same ∙ is_last)
+    said-last : (last : List ℕ) → o.text ≡ last → text ≡ first_text bound 1 ++ (more ++ last)
+    said-last last is_last =
+        e.said ∙ (ap (λ (t : List ℕ). told e.taken.steps ++ t) (same ∙ is_last)
+        ∙ (ap (λ (t : List ℕ). t ++ last) first.1 ∙ append_assoc (first_text bound 1) first.0 last))
 
     found-best : goes_out task w ≡ true → o ≡ says Done (end_text w) → IsImproved c old new text
     found-best goes is_found =
@@ -184,9 +210,10 @@ module _ (c : ImproveCall) (held : Option Timetable) (old new : Option Names) (t
         e.taken.written told_last in
         with-best w.kept (subst (λ I. feasible (bill_of I w.kept) ≡ true) inside works) (given-no_dearer w.kept behind.no_worse)
         (inl (subst (λ (t : Terms). MayFollow t v.start w.kept) terms-are behind, subst (λ I. IfTold (IsWritten c.out (solution I w.kept)) old new) inside wrote))
-        (told e.taken.steps) (changes_text v.settings.keep v.instance v.start w.kept) (inr refl)
+        more (changes_text v.settings.keep v.instance v.start w.kept) (inr refl)
         (said-last (end_text w) (ap (λ (x : OutcomeState). x.text) is_found)
-        ∙ ap (λ (t : Terms). told e.taken.steps ++ (report t.instance.weights (bill_of t.instance w.kept) ++ changes_text t.settings.keep t.instance t.start w.kept)) same-terms)
+        ∙ ap (λ (t : Terms). first_text bound 1 ++ (more ++ (report t.instance.weights (bill_of t.instance w.kept) ++ changes_text t.settings.keep t.instance t.start w.kept)))
+        same-terms)
 
     kept-held : goes_out task w ≡ false → (h : Option Timetable) → held ≡ h → o ≡ stays task w h → IsImproved c old new text
     kept-held goes None at is_none = absurd (not-done o (ap (λ (x : OutcomeState). x.status) is_none) status)
@@ -203,11 +230,11 @@ module _ (c : ImproveCall) (held : Option Timetable) (old new : Option Names) (t
             let works_here = subst (λ I. feasible (bill_of I H) ≡ true) inside works in
             let line = kept_line c.out w.instance H in
             with-best H works_here (given-no_dearer H (held-no_worse w H same-terms at works_here goes behind.no_worse)) (inr (held-there H at, unchanged))
-            (told e.taken.steps ++ line) [] (inl refl)
+            (more ++ line) [] (inl refl)
             (said-last (line ++ report w.instance.weights (bill_of w.instance H)) (ap (λ (x : OutcomeState). x.text) is_kept)
-            ∙ sym (append_assoc (told e.taken.steps) line (report w.instance.weights (bill_of w.instance H)))
-            ∙ (ap (λ I. (told e.taken.steps ++ line) ++ report I.weights (bill_of I H)) inside
-            ∙ ap (λ (t : List ℕ). (told e.taken.steps ++ line) ++ t) (sym (append-nil (report v.instance.weights (bill_of v.instance H))))))
+            ∙ ap (λ (t : List ℕ). first_text bound 1 ++ t) (sym (append_assoc more line (report w.instance.weights (bill_of w.instance H)))
+            ∙ (ap (λ I. (more ++ line) ++ report I.weights (bill_of I H)) inside
+            ∙ ap (λ (t : List ℕ). (more ++ line) ++ t) (sym (append-nil (report v.instance.weights (bill_of v.instance H)))))))
 
     by_best : (b : Bool) → goes_out task w ≡ b → o ≡ (if b then says Done (end_text w) else stays task w held)
         → IsImproved c old new text
@@ -297,15 +324,18 @@ done-improved c old new text h = by_ends h.ends.ends
       in_out = i.in_out;
       changes = i.changes;
       are_changes = i.are_changes;
+      bound = i.bound;
+      limit = i.limit;
       told = i.told;
     }
 
     by_ends : (IfTold Unchanged old new × PinsNobody old (reading h.found c) Done text)
-        ⊎ BegunEnds (IsSearch old (reading h.found c) h.ends.held) (IsRound Leaves (task_of (reading h.found c) h.ends.held)) (IsSearched (task_of (reading h.found c) h.ends.held))
+        ⊎ BegunEnds (IsSearch old (reading h.found c) h.ends.held h.ends.bound) (IsRound Leaves (task_of (reading h.found c) h.ends.held h.ends.bound))
+        (IsSearched (task_of (reading h.found c) h.ends.held h.ends.bound))
         (most_rounds c.pace.length c.pace.rounds) (improve_inputs (reading h.found c)) old new Done text → IsImproved c old new text
     by_ends (inl (kept, nobody)) = absurd (let refused = nobody.refused in let clash : Done ≡ StartRefused unknown_patient = refused in cc)
     by_ends (inr (inl (kept, unread))) = absurd (unread-only old (improve_inputs (reading h.found c)) Done text unread)
-    by_ends (inr (inr (v, is, e))) = improved-as (found (reading h.found c) h.ends.held old new text v is e e.ends)
+    by_ends (inr (inr (v, is, e))) = improved-as (found (reading h.found c) h.ends.held h.ends.bound old new text v is e e.ends)
 
 pub none-drafted : NoneFoundLeavesADraft
 none-drafted c old new text h = by_ends h.ends.ends
@@ -321,8 +351,9 @@ none-drafted c old new text h = by_ends h.ends.ends
     }
 
     by_ends : (IfTold Unchanged old new × PinsNobody old (reading h.found c) NoneFound text)
-        ⊎ BegunEnds (IsSearch old (reading h.found c) h.ends.held) (IsRound Leaves (task_of (reading h.found c) h.ends.held)) (IsSearched (task_of (reading h.found c) h.ends.held))
+        ⊎ BegunEnds (IsSearch old (reading h.found c) h.ends.held h.ends.bound) (IsRound Leaves (task_of (reading h.found c) h.ends.held h.ends.bound))
+        (IsSearched (task_of (reading h.found c) h.ends.held h.ends.bound))
         (most_rounds c.pace.length c.pace.rounds) (improve_inputs (reading h.found c)) old new NoneFound text → IsDrafted c old new
     by_ends (inl (kept, nobody)) = absurd (let refused = nobody.refused in let clash : NoneFound ≡ StartRefused unknown_patient = refused in cc)
     by_ends (inr (inl (kept, unread))) = absurd (unread-only old (improve_inputs (reading h.found c)) NoneFound text unread)
-    by_ends (inr (inr (v, is, e))) = drafted-as (drafted (reading h.found c) h.ends.held old new text v is e e.ends)
+    by_ends (inr (inr (v, is, e))) = drafted-as (drafted (reading h.found c) h.ends.held h.ends.bound old new text v is e e.ends)

@@ -12,7 +12,7 @@ use Rattle.ih_frame.specs.Steps.{AreSteps}
 use Rattle.ih_frame.proofs.SameFiles.{SameWrites, files-same}
 use Rattle.ih_planning.specs.Laws.{AreRounds, AttemptsLeaveTheSame, DifferInNumbers, IsTheSame, RoundsLeaveTheSame}
 use Rattle.ih_planning.specs.Pacing.{IsNextSpan, attempts_of, share_of}
-use Rattle.ih_planning.specs.Rounds.{IsRound, SearchTask, best_writes, goes_out, is_new, round_line}
+use Rattle.ih_planning.specs.Rounds.{IsRound, SearchTask, best_writes, goes_out, is_new, round_text}
 use Rattle.ih_planning.specs.declared.pacing.Length.{Length}
 use Rattle.ih_planning.specs.declared.pacing.Length.TheVariants.{Attempts}
 
@@ -21,7 +21,7 @@ module _ (may_leave : LegState → ℕ → Timetable → Type 0) (determined : I
 
   pub record AreAlike (w x : ImproverState) (o p : OutcomeState) : Type 0 where
     pub here : w ≡ x
-    pub told : DifferInNumbers t.pace (o ∷ []) (p ∷ [])
+    pub told : DifferInNumbers t (o ∷ []) (p ∷ [])
     pub writes : o.writes ≡ p.writes
 
   round-alike : (u w x : ImproverState) (o p : OutcomeState) → (one : IsRound may_leave t u o w) → (again : IsRound may_leave t u p x)
@@ -39,7 +39,7 @@ module _ (may_leave : LegState → ℕ → Timetable → Type 0) (determined : I
             one.numbers,
             again.numbers,
             ap (λ (q : OutcomeState). q.text) one.comes,
-            ap (λ (q : OutcomeState). q.text) again.comes ∙ ap (λ (y : ImproverState). round_line t.pace y again.numbers) (sym here),
+            ap (λ (q : OutcomeState). q.text) again.comes ∙ ap (λ (y : ImproverState). round_text t.bound t.pace y again.numbers) (sym here),
           ),
           tt,
         );
@@ -50,7 +50,7 @@ module _ (may_leave : LegState → ℕ → Timetable → Type 0) (determined : I
   -- ---- all rounds
 
   abbrev pub Alike : (w x : ImproverState) (rs ss : List OutcomeState) → Type 0
-  Alike w x rs ss = (w ≡ x) × DifferInNumbers t.pace rs ss × SameWrites rs ss
+  Alike w x rs ss = (w ≡ x) × DifferInNumbers t rs ss × SameWrites rs ss
 
   -- one round more
   one-more : (u y w x : ImproverState) (o p : OutcomeState) (rs ss : List OutcomeState) → Alike u y rs ss → (one : IsRound may_leave t u o w)

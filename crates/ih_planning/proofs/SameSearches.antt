@@ -5,6 +5,7 @@ use Rattle.ih_tables.specs.declared.drafts.Draft.{Draft}
 use Rattle.ih_tables.specs.Bills.{feasible}
 use Rattle.ih_plan.specs.Timetable.{Timetable}
 use Rattle.ih_plan.specs.BillOf.{bill_of}
+use Rattle.ih_bound.specs.declared.outcomes.Outcome.{Outcome}
 use Rattle.ih_fill.specs.Fill.{fill}
 use Rattle.ih_shelf.specs.Outside.{Names, is_there}
 use Rattle.ih_answers.specs.declared.status.Status.{Status}
@@ -28,7 +29,7 @@ use Rattle.ih_planning.specs.declared.pacing.Length.{Length}
 use Rattle.ih_planning.specs.declared.pacing.Length.TheVariants.{Attempts, Seconds}
 use Rattle.ih_planning.specs.Laws.{SearchesAreDetermined}
 use Rattle.ih_planning.specs.Pinning.{first_unknown}
-use Rattle.ih_planning.specs.Searching.{ImproveEnds, IsSearch, IsSearchFrom, SearchEnds, begun, cheaper_fill, new_search, task_of}
+use Rattle.ih_planning.specs.Searching.{ImproveEnds, IsLimit, IsSearch, IsSearchFrom, SearchEnds, begun, cheaper_fill, new_search, task_of}
 
 cheaper-fill : (hard : ℕ) (I : Draft) (P : Timetable) → IsNoDearer I P (cheaper_fill hard I P)
 cheaper-fill hard I P = by_case (is_better hard 0 I.weights (of_bill (bill_of I (fill I hard P))) (of_bill (bill_of I P))) refl
@@ -76,7 +77,7 @@ plan-same files None I P Q one other = one ∙ sym other
 plan-same files (Some name) I P Q one other = let same : Ok P ≡ Ok Q = sym one.read ∙ other.read in cc
 
 pub searches-same : SearchesAreDetermined
-searches-same c files held kept v w one other processors =
+searches-same c files held kept bound limit v w one other processors =
     let same : v.instance ≡ w.instance = instance-same c.instance files v.instance w.instance one.inputs.instance other.inputs.instance in
     let given : one.given ≡ other.given =
     plan-same files c.start.file w.instance one.given other.given (subst (λ (X : Draft). HasPlan (Some files) c.start.file X one.given) same one.inputs.plan) other.inputs.plan in
@@ -91,9 +92,9 @@ searches-same c files held kept v w one other processors =
     ∙ (ap₂ (λ (P : Timetable) (s : Settings). new_search w.instance P (pins_of w.instance c.pins c.pin_nurses) s) start settings ∙ sym other.from.is_new))
 
 -- the search that was begun is that of the files and the words
-pub search-of : (files : Option Names) (found : Bool) (d : ImproveCall) (g : Given) (v : ImproverState) → HasGiven files (improve_inputs (reading found d)) g
-    → IsSearchFrom g.instance g.plan d v → IsSearch files (reading found d) g.older v
-search-of files found d g v has began =
+pub search-of : (files : Option Names) (found : Bool) (d : ImproveCall) (g : Given) (bound : Option Outcome) (v : ImproverState) → HasGiven files (improve_inputs (reading found d)) g
+    → IsLimit d.is_bounded g.instance bound → IsSearchFrom g.instance g.plan d v → IsSearch files (reading found d) g.older bound v
+search-of files found d g bound v has limit began =
     let c = reading found d in
     let from : IsSearchFrom g.instance g.plan c v = record {
       pace = began.pace;
@@ -109,6 +110,7 @@ search-of files found d g v has began =
       given = g.plan;
       inputs = subst (λ (X : Draft). HasInputs files (improve_inputs c) X g.plan) (sym same) has.inputs;
       older = subst (λ (X : Draft). HasOlder files (older_of c) X g.older) (sym same) has.older;
+      limit = subst (λ (X : Draft). IsLimit c.is_bounded X bound) (sym same) limit;
       from = subst (λ (X : Draft). IsSearchFrom X g.plan c v) (sym same) from;
     }
 
@@ -121,14 +123,14 @@ rounds-few (Seconds s) rounds false made = omega arith
 -- ---- how a call ends, by what it reads
 
 module _ (c : ImproveCall) where
-  -- what OUT has that may stay
-  pub search-ended : (held : Option Timetable) (old new : Option Names) (cause : Status → Type 0) (received part : List ℕ → Type 0) (status : Status)
-      → Ends (BegunEnds (IsSearch old c held) (IsRound Leaves (task_of c held)) (IsSearched (task_of c held)) (most_rounds c.pace.length c.pace.rounds) (improve_inputs c) old new)
+  -- what OUT has that may stay, and what is told of all feasible timetables
+  pub search-ended : (held : Option Timetable) (bound : Option Outcome) (old new : Option Names) (cause : Status → Type 0) (received part : List ℕ → Type 0) (status : Status)
+      → Ends (BegunEnds (IsSearch old c held bound) (IsRound Leaves (task_of c held bound)) (IsSearched (task_of c held bound)) (most_rounds c.pace.length c.pace.rounds) (improve_inputs c) old new)
       cause received part status
       → Ends (SearchEnds c old new) cause received part status
-  search-ended held old new cause received part =
-      ends-later (BegunEnds (IsSearch old c held) (IsRound Leaves (task_of c held)) (IsSearched (task_of c held)) (most_rounds c.pace.length c.pace.rounds) (improve_inputs c) old new)
-      (SearchEnds c old new) (λ t. t) cause cause received part received part (λ s t h. record { held = held; ends = inr h }) (λ s h. h) (λ t h. h) (λ t h. h)
+  search-ended held bound old new cause received part =
+      ends-later (BegunEnds (IsSearch old c held bound) (IsRound Leaves (task_of c held bound)) (IsSearched (task_of c held bound)) (most_rounds c.pace.length c.pace.rounds) (improve_inputs c) old new)
+      (SearchEnds c old new) (λ t. t) cause cause received part received part (λ s t h. record { held = held; bound = bound; ends = inr h }) (λ s h. h) (λ t h. h) (λ t h. h)
 
   -- whether OUT is there
   pub improve-ended : (found : Bool) (old new : Option Names) (cause : Status → Type 0) (received part : List ℕ → Type 0) (status : Status)

@@ -14,13 +14,16 @@ use Rattle.ih_planning.specs.Calls.Carry.{CarryCall, IsCarriedOver, carry_app, c
 use Rattle.ih_planning.specs.Calls.Check.{CheckCall, IsChecked, check_app, check_call, check_inputs, lawful_check}
 use Rattle.ih_planning.specs.Calls.Improve.{ImproveCall, IsLawfulCall, improve_app, improve_call, improve_inputs, lawful_improve}
 use Rattle.ih_planning.specs.Pinning.{unknown_patient}
+use Rattle.ih_planning.specs.Calls.Table.{IsTabled, TableCall, lawful_table, table_app, table_call, table_inputs}
 use Rattle.ih_planning.specs.Calls.View.{IsViewed, ViewCall, lawful_view, view_app, view_call, view_inputs}
 use Rattle.ih_planning.specs.declared.command.Command.{Command}
-use Rattle.ih_planning.specs.declared.command.Command.TheVariants.{Bound as BoundCommand, Carry as CarryCommand, Check as CheckCommand, Improve as ImproveCommand, View as ViewCommand}
+use Rattle.ih_planning.specs.declared.command.Command.TheVariants.{Bound as BoundCommand, Carry as CarryCommand, Check as CheckCommand, Improve as ImproveCommand, Table as TableCommand, View as ViewCommand}
 pub mod Bound
 pub mod Carry
 pub mod Check
+pub mod Days
 pub mod Improve
+pub mod Table
 pub mod View
 
 -- a call of one of the commands
@@ -30,6 +33,7 @@ pub data Call : Type 0 where
   bound : BoundCall → Call
   check : CheckCall → Call
   carry : CarryCall → Call
+  table : TableCall → Call
 
 -- the call that a command's values stand for
 abbrev pub command_call : Command → Call
@@ -38,6 +42,7 @@ command_call (ViewCommand v) = view (view_call v)
 command_call (BoundCommand b) = bound (bound_call b)
 command_call (CheckCommand c) = check (check_call c)
 command_call (CarryCommand c) = carry (carry_call c)
+command_call (TableCommand t) = table (table_call t)
 
 -- the settings of a search, where the command has them, are within their limits, and so are its workers
 abbrev pub HasLawfulSettings : Command → Type 0
@@ -46,20 +51,22 @@ HasLawfulSettings (BoundCommand b) = HasFewWorkers b
 HasLawfulSettings (ViewCommand v) = Unit {0}
 HasLawfulSettings (CheckCommand c) = Unit {0}
 HasLawfulSettings (CarryCommand c) = Unit {0}
+HasLawfulSettings (TableCommand t) = Unit {0}
 
 -- ---- the words that name them
 
 -- all commands, by which `clap` explains words of which the first is no command's name
 unfoldable pub program_app : App
 program_app =
-    with_subcommand (with_subcommand (with_subcommand (with_subcommand (with_subcommand
+    with_subcommand (with_subcommand (with_subcommand (with_subcommand (with_subcommand (with_subcommand
     (on_top (λ s. record s { no_binary_name = true; subcommand_required = true; arg_required_else_help = true })
     (new_app (codes "ih_planner")))
     improve_app.top)
     view_app.top)
     bound_app.top)
     check_app.top)
-    carry_app.top
+    carry_app.top)
+    table_app.top
 
 -- the description of the command with this name, by which `clap` reads and explains the words
 abbrev pub app_named : Text → App
@@ -69,7 +76,8 @@ app_named name =
     else (if bytes_eq name (codes "bound") then bound_app
     else (if bytes_eq name (codes "check") then check_app
     else (if bytes_eq name (codes "carry") then carry_app
-    else program_app))))
+    else (if bytes_eq name (codes "table") then table_app
+    else program_app)))))
 
 -- the same of the words: the first is the command's name
 unfoldable pub app_for : List Text → App
@@ -83,7 +91,8 @@ call_named name words =
     else (if bytes_eq name (codes "bound") then option_map bound (call_by bound_app lawful_bound words)
     else (if bytes_eq name (codes "check") then option_map check (call_by check_app lawful_check words)
     else (if bytes_eq name (codes "carry") then option_map carry (call_by carry_app lawful_carry words)
-    else None))))
+    else (if bytes_eq name (codes "table") then option_map table (call_by table_app lawful_table words)
+    else None)))))
 
 -- the call that the words name, where they are lawful: the first word is the command's name
 unfoldable pub call_of : List Text → Option Call
@@ -98,6 +107,7 @@ inputs_of (view v) = view_inputs v
 inputs_of (bound b) = bound_inputs b
 inputs_of (check c) = check_inputs c
 inputs_of (carry c) = carry_inputs c
+inputs_of (table t) = table_inputs t
 
 -- what a call comes to that has one outcome: improve has one for each round
 abbrev pub comes_to : Call → Given → OutcomeState → Type 0
@@ -106,6 +116,7 @@ comes_to (view v) = IsViewed v
 comes_to (bound b) = IsBounded b
 comes_to (check c) = IsChecked
 comes_to (carry c) = IsCarriedOver c
+comes_to (table t) = IsTabled t
 
 -- the answers of a call that has all that it needs
 abbrev pub IsAnswered : Call → Status → Type 0
@@ -116,3 +127,4 @@ IsAnswered (view v) status = (status ≡ Done) ⊎ (status ≡ OutOfMemory)
 IsAnswered (bound b) status = (status ≡ Done) ⊎ (status ≡ Infeasible) ⊎ (status ≡ OutOfMemory)
 IsAnswered (check c) status = (status ≡ Done) ⊎ (status ≡ Infeasible) ⊎ (status ≡ OutOfMemory)
 IsAnswered (carry c) status = (status ≡ Done) ⊎ (status ≡ OutOfMemory)
+IsAnswered (table t) status = (status ≡ Done) ⊎ (status ≡ OutOfMemory)

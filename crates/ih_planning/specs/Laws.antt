@@ -6,6 +6,7 @@ use Rattle.ih_tables.specs.Bills.{feasible}
 use Rattle.ih_plan.specs.Timetable.{Timetable}
 use Rattle.ih_plan.specs.BillOf.{bill_of}
 use Rattle.ih_shelf.specs.Outside.{IfTold, IsWritten, Names}
+use Rattle.ih_bound.specs.declared.outcomes.Outcome.{Outcome}
 use Rattle.ih_solution.specs.Solution.{solution}
 use Rattle.ih_validate.specs.Report.{report}
 use Rattle.ih_inputs.specs.Reading.{HasInputs, HasSolution}
@@ -24,12 +25,11 @@ use Rattle.ih_frame.specs.Outcomes.{OutcomeState}
 use Rattle.ih_frame.specs.Steps.{AreAllWritten, AreSteps}
 use Rattle.ih_planning.specs.Calls.Improve.{ImproveCall, improve_inputs}
 use Rattle.ih_planning.specs.Pacing.{attempts_of}
-use Rattle.ih_planning.specs.Rounds.{HoldsBest, IsRound, SearchTask, changes_text, round_line}
+use Rattle.ih_planning.specs.Rounds.{HoldsBest, IsRound, SearchTask, changes_text, first_text, round_text}
 use Rattle.ih_planning.specs.declared.pacing.Length.TheVariants.{Attempts}
-use Rattle.ih_planning.specs.declared.pacing.Pace.{Pace}
 use Rattle.ih_planning.specs.declared.rounds.RoundNumbers.{RoundNumbers}
 use Rattle.ih_planning.specs.Pinning.{first_unknown}
-use Rattle.ih_planning.specs.Searching.{ImproveEnds, IsSearch, begun}
+use Rattle.ih_planning.specs.Searching.{ImproveEnds, IsLimit, IsSearch, begun}
 
 -- what a call's search goes by, from an instance, a start and settings
 abbrev pub call_terms : ImproveCall → Draft → Timetable → Settings → Terms
@@ -62,7 +62,11 @@ pub record IsImproved (c : ImproveCall) (old new : Option Names) (text : List �
   -- how its changes are told, where the search found it and they weigh anything
   pub changes : List ℕ
   pub are_changes : (changes ≡ []) ⊎ (changes ≡ changes_text settings.keep instance start best)
-  pub told : (before : List ℕ) × (text ≡ before ++ (report instance.weights (bill_of instance best) ++ changes))
+  -- what no feasible timetable costs less than, where that is asked for: it is told first
+  pub bound : Option Outcome
+  pub limit : IsLimit c.is_bounded instance bound
+  pub told : (before : List ℕ)
+      × (text ≡ first_text bound 1 ++ (before ++ (report instance.weights (bill_of instance best) ++ changes)))
 
 -- a call of improve that is done has improved
 abbrev pub DoneCallsHaveImproved : Type 0
@@ -98,13 +102,13 @@ RoundsLeaveTheirBest =
     → HoldsBest t w old new
 
 -- what is told of as many rounds is the same but for the heats and what the clock said
-abbrev pub DifferInNumbers : Pace → List OutcomeState → List OutcomeState → Type 0
-DifferInNumbers pace [] [] = Unit {0}
-DifferInNumbers pace (o ∷ os) (p ∷ ps) =
-    ((v : ImproverState) × (h : RoundNumbers) × (k : RoundNumbers) × (o.text ≡ round_line pace v h)
-    × (p.text ≡ round_line pace v k))
-    × DifferInNumbers pace os ps
-DifferInNumbers pace os ps = ⊥
+abbrev pub DifferInNumbers : SearchTask → List OutcomeState → List OutcomeState → Type 0
+DifferInNumbers t [] [] = Unit {0}
+DifferInNumbers t (o ∷ os) (p ∷ ps) =
+    ((v : ImproverState) × (h : RoundNumbers) × (k : RoundNumbers) × (o.text ≡ round_text t.bound t.pace v h)
+    × (p.text ≡ round_text t.bound t.pace v k))
+    × DifferInNumbers t os ps
+DifferInNumbers t os ps = ⊥
 
 -- rounds with these spans lead from v to w, the last one first
 abbrev pub AreRounds : (may_leave : LegState → ℕ → Timetable → Type 0) → SearchTask → ImproverState → List Span
@@ -118,7 +122,7 @@ AreRounds may_leave t v ss os w = ⊥
 -- what rounds leave that were made twice
 pub record IsTheSame (t : SearchTask) (rs ss : List OutcomeState) (w x : ImproverState) : Type 0 where
   pub search : w ≡ x
-  pub told : DifferInNumbers t.pace rs ss
+  pub told : DifferInNumbers t rs ss
   pub files : (old new other : Names) → AreAllWritten rs old new → AreAllWritten ss old other → Unchanged new other
 
 -- Rounds of one search with the same spans, each led by determined workers, lead to the same and leave the same in each
@@ -141,5 +145,5 @@ AttemptsLeaveTheSame may_leave =
 -- settings
 abbrev pub SearchesAreDetermined : Type 0
 SearchesAreDetermined =
-    (c : ImproveCall) (files : Names) (held kept : Option Timetable) (v w : ImproverState)
-    (one : IsSearch (Some files) c held v) (other : IsSearch (Some files) c kept w) → one.from.processors ≡ other.from.processors → v ≡ w
+    (c : ImproveCall) (files : Names) (held kept : Option Timetable) (bound limit : Option Outcome) (v w : ImproverState)
+    (one : IsSearch (Some files) c held bound v) (other : IsSearch (Some files) c kept limit w) → one.from.processors ≡ other.from.processors → v ≡ w

@@ -8,6 +8,9 @@ use Rattle.ih_plan.specs.BillOf.{bill_of}
 use Rattle.ih_shelf.specs.Outside.{IsWritten, Names, OthersKept}
 use Rattle.ih_solution.specs.Solution.{solution}
 use Rattle.ih_validate.specs.Report.{report}
+use Rattle.ih_bound.specs.Texts.{gap_text, limit_line}
+use Rattle.ih_bound.specs.declared.outcomes.Outcome.{Outcome}
+use Rattle.ih_bound.specs.declared.outcomes.Outcome.TheVariants.{Infeasible, AtLeast}
 use Rattle.ih_changes.specs.Changes.{counted}
 use Rattle.ih_changes.specs.declared.counts.Changes.{Changes}
 use Rattle.ih_improve.specs.Better.{is_better_than}
@@ -27,11 +30,12 @@ use Rattle.ih_planning.specs.declared.pacing.Pace.{Pace}
 use Rattle.ih_planning.specs.declared.rounds.RoundNumbers.{RoundNumbers}
 
 -- What a search goes by: the file of the best and the timetable that it has, where that may stay; the file of a draft, where
--- there is one; and how long it goes on.
+-- there is one; what no feasible timetable costs less than, where that is told; and how long it goes on.
 pub record SearchTask : Type 0 where
   pub out : List ℕ
   pub held : Option Timetable
   pub draft : Option (List ℕ)
+  pub bound : Option Outcome
   pub pace : Pace
 
 -- ---- what is written
@@ -77,12 +81,31 @@ time_text (Attempts n) told = []
 time_text (Seconds s) told =
     codes ", " ++ (decimal told.left ++ (codes " s left, " ++ (decimal told.rate ++ codes " attempts a second")))
 
--- the line of the round that is over, with the attempts of all workers so far
+-- what no feasible timetable costs less than, before the line of the first round, where that is told
+abbrev pub first_text : Option Outcome → ℕ → List ℕ
+first_text None rounds = []
+first_text (Some o) rounds = if rounds == 1 then limit_line o else []
+
+-- how far the best timetable so far may be above the best possible, where that is told and it is feasible
+abbrev pub gap_so_far : Option Outcome → ImproverState → List ℕ
+gap_so_far None v = []
+gap_so_far (Some Infeasible) v = []
+gap_so_far (Some (AtLeast b)) v =
+    if feasible (bill_of v.instance v.kept)
+    then gap_text (cost v.instance.weights (bill_of v.instance v.kept)) b.value
+    else []
+
+-- the line of the round that is over, with the attempts of all workers so far, but for its end
 abbrev pub round_line : Pace → ImproverState → RoundNumbers → List ℕ
 round_line p v told =
     codes "round " ++ (number_text p.length p.rounds v.rounds ++ (codes ": "
     ++ (decimal (v.settings.workers * v.attempts) ++ (codes " attempts, "
-    ++ (best_text v ++ (codes ", heat " ++ (decimal told.heat ++ (time_text p.length told ++ codes "\n"))))))))
+    ++ (best_text v ++ (codes ", heat " ++ (decimal told.heat ++ time_text p.length told)))))))
+
+-- what is told of the round that is over
+abbrev pub round_text : Option Outcome → Pace → ImproverState → RoundNumbers → List ℕ
+round_text bound p v told =
+    first_text bound v.rounds ++ (round_line p v told ++ (gap_so_far bound v ++ codes "\n"))
 
 -- how many changes there are, of patients and of nurses
 unfoldable pub changes_line : Changes → List ℕ
@@ -123,7 +146,7 @@ pub record IsRound (may_leave : LegState → ℕ → Timetable → Type 0) (t : 
   pub same : is_new v w ≡ false → w.kept ≡ v.kept
   pub numbers : RoundNumbers
   pub comes :
-      o ≡ record { writes = best_writes t.out (is_new v w && goes_out t w) w; text = round_line t.pace w numbers; status = Done }
+      o ≡ record { writes = best_writes t.out (is_new v w && goes_out t w) w; text = round_text t.bound t.pace w numbers; status = Done }
 
 -- the best of what was met goes to the draft, where a file is named for that
 abbrev pub draft_writes : Option (List ℕ) → ImproverState → List WritingState

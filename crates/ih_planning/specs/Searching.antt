@@ -3,8 +3,11 @@ use Rattle.std.specs.Prelude.{◌≡◌, ◌⊎◌, ℕ, Bool, true, false, if�
 use Rattle.clap.specs.Words.{Text}
 use Rattle.ih_tables.specs.declared.drafts.Draft.{Draft}
 use Rattle.ih_tables.specs.Bills.{feasible}
-use Rattle.ih_plan.specs.Timetable.{Timetable}
+use Rattle.ih_plan.specs.Timetable.{IsPlanOf, Timetable}
 use Rattle.ih_plan.specs.BillOf.{bill_of}
+use Rattle.ih_bound.specs.Bounds.{HoldsOfAll}
+use Rattle.ih_bound.specs.Judging.{HasGap}
+use Rattle.ih_bound.specs.declared.outcomes.Outcome.{Outcome}
 use Rattle.ih_fill.specs.Fill.{fill}
 use Rattle.ih_shelf.specs.Outside.{IfTold, Names, is_there}
 use Rattle.ih_inputs.specs.Reading.{HasInputs, HasOlder}
@@ -43,9 +46,15 @@ abbrev pub begun : Bool → ℕ → Draft → Timetable → Timetable
 begun false hard I P = P
 begun true hard I P = if feasible (bill_of I P) then cheaper_fill hard I P else fill I hard P
 
--- what a call goes by in each round, where OUT has a timetable that may stay, or none
-abbrev pub task_of : ImproveCall → Option Timetable → SearchTask
-task_of c held = record { out = c.out; held = held; draft = c.draft; pace = c.pace }
+-- what a call goes by in each round, where OUT has a timetable that may stay, or none, and this is told of all
+abbrev pub task_of : ImproveCall → Option Timetable → Option Outcome → SearchTask
+task_of c held bound = record { out = c.out; held = held; draft = c.draft; bound = bound; pace = c.pace }
+
+-- What is told of all feasible timetables, where that is asked for: something that holds of them. So each share that is
+-- told of one is true.
+abbrev pub IsLimit : Bool → Draft → Option Outcome → Type 0
+IsLimit asked I None = asked ≡ false
+IsLimit asked I (Some o) = (asked ≡ true) × HoldsOfAll I o × ((P : Timetable) → IsPlanOf I P → HasGap I P o)
 
 -- before its first round, the search of a call from an instance and a timetable: it starts from that, or from the fill
 -- of it, and never from a dearer one than a feasible one that is given. Each id that is pinned is a patient's. Where no
@@ -59,11 +68,13 @@ pub record IsSearchFrom (I : Draft) (given : Timetable) (c : ImproveCall) (v : I
   pub named : first_unknown I c.pins ≡ None
   pub is_new : v ≡ new_search I v.start (pins_of I c.pins c.pin_nurses) v.settings
 
--- the same over what the files give, and what may stay is what OUT has
-pub record IsSearch (files : Option Names) (c : ImproveCall) (held : Option Timetable) (v : ImproverState) : Type 0 where
+-- the same over what the files give, and what may stay is what OUT has; and what is told of all feasible timetables
+pub record IsSearch (files : Option Names) (c : ImproveCall) (held : Option Timetable) (bound : Option Outcome)
+    (v : ImproverState) : Type 0 where
   pub given : Timetable
   pub inputs : HasInputs files (improve_inputs c) v.instance given
   pub older : HasOlder files (older_of c) v.instance held
+  pub limit : IsLimit c.is_bounded v.instance bound
   pub from : IsSearchFrom v.instance given c v
 
 -- ---- how it ends
@@ -83,9 +94,11 @@ pub record PinsNobody (files : Option Names) (c : ImproveCall) (status : Status)
 pub record SearchEnds (c : ImproveCall) (old new : Option Names) (status : Status) (text : List ℕ) : Type 0 where
   -- what OUT has that may stay
   pub held : Option Timetable
+  -- what is told of all feasible timetables
+  pub bound : Option Outcome
   pub ends :
       (IfTold Unchanged old new × PinsNobody old c status text)
-      ⊎ BegunEnds (IsSearch old c held) (IsRound Leaves (task_of c held)) (IsSearched (task_of c held))
+      ⊎ BegunEnds (IsSearch old c held bound) (IsRound Leaves (task_of c held bound)) (IsSearched (task_of c held bound))
       (most_rounds c.pace.length c.pace.rounds) (improve_inputs c) old new status text
 
 -- How a call of improve ends: OUT is read only where it is there.

@@ -13,13 +13,16 @@ pub mod bound;
 pub mod carry;
 pub mod check;
 mod common;
+mod days;
 pub mod improve_words;
+pub mod table;
 pub mod view;
 
 use crate::command::bound::{BOUND, Bound, read_bound};
 use crate::command::carry::{CARRY, Carry, read_carry};
 use crate::command::check::{CHECK, Check, read_check};
 use crate::command::improve_words::{IMPROVE, Improve, read_improve};
+use crate::command::table::{TABLE, Table, read_table};
 use crate::command::view::{VIEW, View, read_view};
 use crate::improving::improve;
 use crate::watches::Watch;
@@ -45,9 +48,11 @@ pub enum Command<'a> {
     Check(Check<'a>),
     /// Carries a plan over to a ward that has changed.
     Carry(Carry<'a>),
+    /// Writes a solution's timetable as a table.
+    Table(Table<'a>),
 }
 
-const COMMANDS: [Description<'static, 'static>; 5] = [IMPROVE, VIEW, BOUND, CHECK, CARRY];
+const COMMANDS: [Description<'static, 'static>; 6] = [IMPROVE, VIEW, BOUND, CHECK, CARRY, TABLE];
 
 // All commands, for the help on the program.
 fn program_description<'a>(alloc: Global) -> Result<clap::Command<'a>, AllocError>
@@ -87,6 +92,7 @@ fn read_named<'a>(alloc: Global, name: &str, words: &'a [String]) -> Result<Comm
         "bound" => Ok(Command::Bound(read_bound(alloc, words)?)),
         "check" => Ok(Command::Check(read_check(alloc, words)?)),
         "carry" => Ok(Command::Carry(read_carry(alloc, words)?)),
+        "table" => Ok(Command::Table(read_table(alloc, words)?)),
         _ => Err(explained_commands(alloc, words)),
     }
 }
@@ -100,8 +106,8 @@ fn read_named<'a>(alloc: Global, name: &str, words: &'a [String]) -> Result<Comm
 /// - `Help` where the words ask for help, and `Refused` where no command has them: the first word is no command's name,
 ///   `clap` finds a fault, two file names are equal, a freeze day comes without the file of a start or with `--fill`,
 ///   seconds come with attempts, or `--empty` with `--start` or `--fill`, `--keep`, `--pin` or `--pin-nurses` as a freeze
-///   day does, the heat would rise, the workers together would make more than `MAX_CALL_ATTEMPTS` attempts, or `--from`
-///   names no day.
+///   day does, the heat would rise, the workers together would make more than `MAX_CALL_ATTEMPTS` attempts, `--from` names
+///   no day, or `--of` no subject.
 /// - `OutOfMemory` where memory ran out.
 pub fn read_words<'a>(alloc: Global, words: &'a [String]) -> Result<Command<'a>, NoCall>
     ensures ok { IfOk result (λ c. call_of (map string_bytes words.entry.now) ≡ Some (command_call c)) }
@@ -140,5 +146,6 @@ pub(crate) fn perform<R: Files + Print + Threads + Wait + Sync, S: Finds, O: Sin
         Command::Bound(call) => ih_frame::perform(rt, alloc, call, shelf, out),
         Command::Check(call) => ih_frame::perform(rt, alloc, call, shelf, out),
         Command::Carry(call) => ih_frame::perform(rt, alloc, call, shelf, out),
+        Command::Table(call) => ih_frame::perform(rt, alloc, call, shelf, out),
     }
 }

@@ -12,13 +12,15 @@ ghost use Rattle.ih_planning.specs.Pacing.{most_rounds};
 ghost use Rattle.ih_planning.specs.Pinning.{first_unknown, unknown_patient, unknown_text};
 ghost use Rattle.ih_answers.specs.Answers.{IsSaid};
 ghost use Rattle.ih_answers.specs.declared.status.Status.TheVariants.{StartRefused};
-ghost use Rattle.ih_planning.specs.Searching.{ImproveEnds, IsSearchFrom, SearchEnds, begun};
+ghost use Rattle.ih_planning.specs.Searching.{ImproveEnds, IsLimit, IsSearchFrom, SearchEnds, begun};
 
+use crate::command::bound::DEFAULT_BOUND_ROUNDS;
 use crate::command::improve_words::Improve;
 use crate::rounds::Search;
 use crate::times::Times;
 use crate::watches::Watch;
 use ih_answers::{Answer, Status, conclude, conclude_memory, read_or_answer, said};
+use ih_bound::bound;
 use ih_fill::fill;
 use ih_frame::go_on;
 use ih_improve::{Improver, Pins, Standing, is_better};
@@ -106,6 +108,27 @@ fn pins_nobody(alloc: Global, id: &str) -> Answer
     said(alloc, status, format!(in alloc; "unknown patient: {id}\n"))
 }
 
+// What no feasible timetable costs less than, where the call asks for that. It is found by as many workers as the search
+// has.
+fn limit_of<R: Threads + Sync>(
+    rt: &R,
+    alloc: Global,
+    call: &Improve<'_>,
+    inst: &Instance,
+    processors: u32,
+) -> Result<Option<ih_bound::Outcome>, AllocError>
+    requires lawful { IsLawfulCall (improve_call call.now) }
+    requires few { processors ≤ MAX_WORKERS }
+    ensures { IfOk result (IsLimit (improve_call call.now).is_bounded inst.now.draft) }
+{
+    if !call.is_bounded {
+        return Ok(None);
+    }
+    let workers = call.settings.workers.unwrap_or(processors);
+    let found = bound(rt, alloc, inst, DEFAULT_BOUND_ROUNDS, workers)?;
+    Ok(Some(found))
+}
+
 // The search of a call from what the files gave, before its first round. What is older is the timetable that stays where
 // it is cheaper.
 fn search_from<'i, 'o, W: Watch>(
@@ -113,6 +136,7 @@ fn search_from<'i, 'o, W: Watch>(
     call: &Improve<'o>,
     inputs: &'i Inputs,
     processors: u32,
+    bound: Option<ih_bound::Outcome>,
     times: Times,
     watch: W,
 ) -> Result<Search<'i, 'o, W>, AllocError>
@@ -125,6 +149,7 @@ fn search_from<'i, 'o, W: Watch>(
         (improve_call call.entry.now) s.improver) }
     ensures instance { IfOk result (λ s. s.improver.instance ≡ s.inst.now.draft) }
     ensures draft { IfOk result (λ s. s.draft ≡ call.entry.now.draft) }
+    ensures bound { IfOk result (λ s. s.bound ≡ bound) }
     ensures pace { IfOk result (λ s. s.pace ≡ call.entry.now.pace) }
     ensures times { IfOk result (λ s. s.times ≡ times) }
     ensures out { IfOk result (λ s. s.out ≡ call.entry.now.out) }
@@ -142,6 +167,7 @@ fn search_from<'i, 'o, W: Watch>(
         out: call.out,
         held: inputs.older.as_ref(),
         draft: call.draft,
+        bound,
         pace: call.pace,
         times,
         watch,
@@ -186,7 +212,6 @@ fn search<R: Files + Print + Threads + Wait + Sync, S: Shelf, O: Sink, W: Watch>
     ensures cause { HasCause (S.read_faults shelf.old) (S.read_faults shelf.new) (S.write_faults shelf.old)
         (S.write_faults shelf.new) (O.faults out.old) (O.faults out.new) result }
 {
-    let times = Times::begin(&call.pace, &mut watch);
     let inputs = match read_or_answer(rt, alloc, &names_of(call, is_found), shelf) {
         Ok(inputs) => inputs,
         Err(answer) => return conclude(rt, out, &answer),
@@ -194,15 +219,21 @@ fn search<R: Files + Print + Threads + Wait + Sync, S: Shelf, O: Sink, W: Watch>
     if let Some(id) = first_unknown(&*inputs.inst, call.pins.as_slice()) {
         return conclude(rt, out, &pins_nobody(alloc, id));
     }
-    match search_from(alloc, call, &inputs, processors(rt), times, watch) {
+    let processors = processors(rt);
+    let Ok(bound) = limit_of(rt, alloc, call, &*inputs.inst, processors) else {
+        return conclude_memory(rt, out);
+    };
+    let times = Times::begin(&call.pace, &mut watch);
+    match search_from(alloc, call, &inputs, processors, bound, times, watch) {
         Ok(mut search) => go_on(rt, alloc, &mut search, call.pace.most_rounds(), shelf, out),
         Err(_) => conclude_memory(rt, out),
     }
 }
 
-/// Reads the instance, the start and, where it is there and isn't to be replaced, the timetable that the file of the solution
-/// has. Searches in rounds, and writes the best so far after the first round that has a feasible one cheaper than that, and
-/// after each that found a cheaper one. By the clock it asks the watch between rounds.
+/// Reads the instance, the start and, where it is there and isn't to be replaced, the timetable that the file of the
+/// solution has. Finds what no feasible timetable costs less than, where the call asks for that. Searches in rounds, and
+/// writes the best so far after the first round that has a feasible one better than that, and after each that found a
+/// better one. By the clock it asks the watch between rounds.
 pub(crate) fn improve<R: Files + Print + Threads + Wait + Sync, S: Finds, O: Sink, W: Watch>(
     rt: &R,
     alloc: Global,

@@ -1,6 +1,6 @@
 //! A search in rounds: what each round comes to, and what the search comes to at last.
 
-ghost use Rattle.std.specs.Prelude.{◌≡◌, ◌≤◌, ◌&&◌, ◌+◌, ◌++◌, false, true, IfOk, IfSome, map, option_map, string_bytes};
+ghost use Rattle.std.specs.Prelude.{◌≡◌, ◌≤◌, ◌&&◌, ◌+◌, ◌++◌, false, true, IfOk, IfSome, OnOk, map, option_map, string_bytes};
 ghost use Rattle.ih_tables.specs.Bills.{feasible};
 ghost use Rattle.ih_plan.specs.{BillOf.bill_of, Timetable.IsPlanOf};
 ghost use Rattle.ih_validate.specs.Report.{report};
@@ -13,12 +13,14 @@ ghost use Rattle.ih_improve.specs.ImproverState.{terms_of};
 ghost use Rattle.ih_planning.specs.Pacing.{IsLawfulPace, rounds_left};
 ghost use Rattle.ih_planning.specs.Rounds.{IsRound, IsSearched, SearchTask, beats, best_text, best_writes, draft_writes, is_new};
 ghost use Rattle.ih_planning.specs.Rounds.{changes_line, changes_text, cost_text, costs_line, end_text, kept_line};
-ghost use Rattle.ih_planning.specs.Rounds.{number_text, round_line, searched, time_text};
+ghost use Rattle.ih_planning.specs.Rounds.{first_text, gap_so_far, number_text, round_line, round_text, searched};
+ghost use Rattle.ih_planning.specs.Rounds.{time_text};
 
 use crate::pacing::{Length, Pace, next_span};
 use crate::times::{Times, after_round};
 use crate::watches::Watch;
 use ih_answers::{Role, Status};
+use ih_bound::{put_gap, put_limit};
 use ih_changes::{Changes, count_changes};
 use ih_frame::{Outcome, Steps, Writing};
 use ih_improve::{Improver, Span};
@@ -41,6 +43,8 @@ pub(crate) struct Search<'i, 'o, W> {
     pub(crate) held: Option<&'i Plan>,
     /// The name of the file that it is written to at last where it isn't feasible.
     pub(crate) draft: Option<&'o str>,
+    /// What no plan costs less than, where that is told.
+    pub(crate) bound: Option<ih_bound::Outcome>,
     pub(crate) pace: Pace,
     pub(crate) times: Times,
     pub(crate) watch: W,
@@ -100,7 +104,37 @@ fn time_text(alloc: Global, length: Length, told: &RoundNumbers) -> Result<Strin
     }
 }
 
-// The line of the round that is over.
+// What no plan costs less than, before the line of the first round, where that is told.
+fn put_first(
+    out: &mut Vec<u8>,
+    bound: &Option<ih_bound::Outcome>,
+    made: u32,
+) -> Result<(), AllocError>
+    ensures { OnOk result (out.new.items ≡ out.old.items ++ first_text bound.now made) }
+{
+    match bound {
+        Some(bound) if made == 1 => put_limit(out, bound),
+        _ => Ok(()),
+    }
+}
+
+// How far the best timetable so far may be above the best possible, where that is told.
+fn put_gap_so_far(
+    out: &mut Vec<u8>,
+    bound: &Option<ih_bound::Outcome>,
+    improver: &Improver<'_>,
+) -> Result<(), AllocError>
+    ensures { OnOk result (out.new.items ≡ out.old.items ++ gap_so_far bound.now improver.now) }
+{
+    match (bound, improver.best()) {
+        (Some(ih_bound::Outcome::AtLeast(bound)), Some((_, cost))) => {
+            put_gap(out, cost, bound.value)
+        }
+        _ => Ok(()),
+    }
+}
+
+// The line of the round that is over, but for its end.
 fn round_line(
     alloc: Global,
     pace: &Pace,
@@ -119,7 +153,26 @@ fn round_line(
     let mut second = Buffer::new();
     let attempts = first.format(improver.attempts_made());
     let heat = second.format(told.heat);
-    format!(in alloc; "round {number}: {attempts} attempts, {best}, heat {heat}{time}\n")
+    format!(in alloc; "round {number}: {attempts} attempts, {best}, heat {heat}{time}")
+}
+
+// What is told of the round that is over: its line, and before the first one what no plan costs less than.
+fn round_text(
+    alloc: Global,
+    bound: &Option<ih_bound::Outcome>,
+    pace: &Pace,
+    improver: &Improver<'_>,
+    told: &RoundNumbers,
+) -> Result<Vec<u8>, AllocError>
+    ensures { IfOk result (λ t. t.items ≡ round_text bound.now pace.now improver.now told.now) }
+{
+    let mut text = Vec::new(alloc);
+    put_first(&mut text, bound, improver.rounds_made())?;
+    let line = round_line(alloc, pace, improver, told)?;
+    text.extend_from_slice(line.as_bytes())?;
+    put_gap_so_far(&mut text, bound, improver)?;
+    text.push(b'\n')?;
+    Ok(text)
 }
 
 // What is told of the round that is over.
@@ -344,6 +397,7 @@ impl<'i, 'o, W: Watch> Search<'i, 'o, W> {
           out = self.entry.now.out.now;
           held = option_map (λ h. h.now) self.entry.now.held;
           draft = option_map (λ t. t.now) self.entry.now.draft;
+          bound = self.entry.now.bound;
           pace = self.entry.now.pace;
         }) self.entry.now.improver) }
         ensures own { IfOk result (λ o. IsOwnStatus o.status) }
@@ -373,6 +427,7 @@ impl<'i, 'o, W: Watch> Steps<'o> for Search<'i, 'o, W> {
       out = s.out.now;
       held = option_map (λ h. h.now) s.held;
       draft = option_map (λ t. t.now) s.draft;
+      bound = s.bound;
       pace = s.pace;
     } };
 
@@ -401,10 +456,10 @@ impl<'i, 'o, W: Watch> Steps<'o> for Search<'i, 'o, W> {
         let told = numbers_of(&self.pace, &self.times, &self.improver);
         let is_written = is_new && goes_out(self.held, &self.improver);
         let writes = best_writes(alloc, self.inst, self.out, is_written, &self.improver)?;
-        let line = round_line(alloc, &self.pace, &self.improver, &told)?;
+        let text = round_text(alloc, &self.bound, &self.pace, &self.improver, &told)?;
         Ok(Outcome {
             writes,
-            text: line.into_bytes(),
+            text,
             status: Status::Done,
         })
     }

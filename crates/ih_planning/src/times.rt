@@ -13,10 +13,10 @@ const MOST_GROWTH: u64 = 50;
 // The longest round, in microseconds.
 const LONGEST_ROUND: u64 = 30_000_000;
 
-/// Times in microseconds since the call began.
+/// Times in microseconds since the search began.
 #[derive(Clone, Copy, Debug)]
 pub(crate) struct Times {
-    // What the watch said as the call began.
+    // What the watch said as the search began.
     began: Option<u64>,
     /// How much time had passed as the last round ended.
     pub(crate) passed: u64,
@@ -33,7 +33,7 @@ fn micros_of(seconds: u32) -> u64 {
 }
 
 impl Times {
-    /// The times as a call begins. Without a clock's time it isn't asked.
+    /// The times as a search begins. Without a clock's time it isn't asked.
     pub(crate) fn begin<W: Watch>(pace: &Pace, watch: &mut W) -> Times
         ensures { result.is_over ≡ false }
     {

@@ -31,9 +31,9 @@ files_rules = with_rule (with_rule (with_rule (with_rule (with_rule (with_rule
     (optional_between (codes "workers") 1 MAX_WORKERS)
 
 -- the same with [--rounds N] [--hot N] [--cold N] [--hard N] [--start F] [--freeze DAY] [--fill] [--empty]
--- [--draft F] [--replace] [--keep N] [--pin ID].. [--pin-nurses]
+-- [--draft F] [--replace] [--keep N] [--pin ID].. [--pin-nurses] [--bound]
 unfoldable pub improve_app : App
-improve_app = with_rule (with_rule (with_rule (with_rule (with_rule (with_rule (with_start (with_rule (with_rule (with_rule (with_rule files_rules
+improve_app = with_rule (with_rule (with_rule (with_rule (with_rule (with_rule (with_rule (with_start (with_rule (with_rule (with_rule (with_rule files_rules
     (optional_between (codes "rounds") 1 MAX_CALL_ROUNDS))
     (optional_number (codes "hot") MAX_HEAT))
     (optional_number (codes "cold") MAX_HEAT))
@@ -43,7 +43,8 @@ improve_app = with_rule (with_rule (with_rule (with_rule (with_rule (with_rule (
     (flag (codes "replace")))
     (optional_number (codes "keep") MAX_KEEP))
     (repeated (codes "pin")))
-    (flag (codes "pin-nurses"))
+    (flag (codes "pin-nurses")))
+    (flag (codes "bound"))
 
 -- what a call of improve asks for; a file's name is its bytes
 pub record ImproveCall : Type 0 where
@@ -60,6 +61,8 @@ pub record ImproveCall : Type 0 where
   pub pins : List Text
   -- so are the nurses of all rooms that are occupied there
   pub pin_nurses : Bool
+  -- it is told what no plan costs less than, and how far the best may be from that
+  pub is_bounded : Bool
 
 -- the call that the values of improve stand for
 abbrev pub improve_call : Improve → ImproveCall
@@ -73,6 +76,7 @@ improve_call i = record {
   draft = option_map (λ t. t.now) i.draft;
   pins = map (λ t. t.now) i.pins.items;
   pin_nurses = i.pin_nurses;
+  is_bounded = i.is_bounded;
 }
 
 -- the file whose timetable stays where it is cheaper
@@ -162,6 +166,7 @@ improve_in rows = record {
   draft = first_of (codes "draft") rows;
   pins = texts_at (codes "pin") rows;
   pin_nurses = flag_at (codes "pin-nurses") rows;
+  is_bounded = flag_at (codes "bound") rows;
 }
 
 -- the names of the files differ, but for a start that is OUT itself

@@ -1,10 +1,8 @@
 -- The command `view`: its description for `clap`, its values and what it comes to.
-use Rattle.std.specs.Prelude.{◌≡◌, ◌==◌, ◌&&◌, Bool, true, List, [], ◌∷◌, length, Option, Some, None, codes, if◌then◌else◌, is_some, option_and_then, option_map, option_to_list, unwrap_or}
-use Rattle.std.specs.Option.{option_map_or}
-use Rattle.std.specs.Result.{result_ok}
+use Rattle.std.specs.Prelude.{◌≡◌, ◌&&◌, true, List, [], ◌∷◌, Option, Some, None, codes, if◌then◌else◌, option_and_then, option_map, option_to_list, unwrap_or}
 use Rattle.clap.specs.Words.{App, Row, Text, first_of, with_rule}
 use Rattle.jiff.specs.Types.{Date}
-use Rattle.jiff.specs.Words.{date_parts, parse_date}
+use Rattle.jiff.specs.Words.{date_parts}
 use Rattle.jiff_fmt.specs.Temporal.{DateParts}
 use Rattle.ih_arguments.specs.Arguments.{files_app, named, optional}
 use Rattle.ih_arguments.specs.Distinct.{all_differ}
@@ -13,6 +11,7 @@ use Rattle.ih_page.specs.Page.{HeadingTexts, page_of}
 use Rattle.ih_inputs.specs.Reading.{Given, InputFiles}
 use Rattle.ih_answers.specs.declared.status.Role.TheVariants.{Out}
 use Rattle.ih_frame.specs.Outcomes.{OutcomeState, writes_one}
+use Rattle.ih_planning.specs.Calls.Days.{date_in, names_a_day}
 use Rattle.ih_planning.specs.declared.command.view.View.{View}
 
 -- view INSTANCE SOLUTION PAGE [--from DATE] [--since OLDER] [--title TEXT]
@@ -61,11 +60,6 @@ view_inputs v = record {
 abbrev pub HasViewNames : List Row → Type 0
 HasViewNames rows = HasNames rows (codes "INSTANCE") (codes "SOLUTION") (codes "PAGE")
 
--- the day that a word names, if it names one: of the ways to write a date that the calendar's reader takes, only
--- 2026-01-05 has ten bytes
-abbrev pub date_in : Text → Option DateParts
-date_in word = if length word == 10 then result_ok (parse_date word) else None
-
 -- the call of view, by `clap`'s matches
 abbrev pub view_in : List Row → ViewCall
 view_in rows = record {
@@ -76,10 +70,6 @@ view_in rows = record {
   since = first_of (codes "since") rows;
   title = first_of (codes "title") rows;
 }
-
--- the word of `--from` names a day, where there is such a word
-abbrev pub names_a_day : List Row → Bool
-names_a_day rows = option_map_or (λ word. is_some (date_in word)) (first_of (codes "from") rows) true
 
 -- the files that a call of view reads or writes
 abbrev pub view_files : ViewCall → List Text

@@ -59,6 +59,8 @@ pub struct Improve<'a> {
     pub pins: Vec<&'a str>,
     /// Whether so are the nurses of all rooms that are occupied there.
     pub pin_nurses: bool,
+    /// Whether it is told what no plan costs less than, and how far the best may be from that.
+    pub is_bounded: bool,
 }
 
 /// `improve INSTANCE OUT`, and the options, all of which may be left out.
@@ -146,6 +148,11 @@ pub const IMPROVE: Description<'static, 'static> = Description {
             Kind::Flag,
             "Leaves the nurses of all rooms that the start occupies; it needs '--start'"
         ),
+        argument!(
+            "bound",
+            Kind::Flag,
+            "Says first what no plan costs less than, and in each line how far the best may be above the best possible"
+        ),
     ],
 };
 
@@ -228,6 +235,7 @@ fn improve_in<'a>(matches: &ArgMatches<'a>, pins: Vec<&'a str>) -> Improve<'a>
         draft: optional_text_of(matches, "draft"),
         pins,
         pin_nurses: flag_of(matches, "pin-nurses"),
+        is_bounded: flag_of(matches, "bound"),
     }
 }
 

@@ -1,14 +1,13 @@
 //! The command `view`: its description for `clap`, its values and what it comes to.
 
-ghost use Rattle.std.specs.Prelude.{◌≡◌, is_some, codes, map, not, option_and_then, option_map, string_bytes};
-ghost use Rattle.clap.specs.Words.{first_of, found_of, rows_of};
-ghost use Rattle.jiff.specs.Words.{date_parts};
-ghost use Rattle.ih_arguments.specs.{Distinct.all_differ, Matches.call_by};
-ghost use Rattle.ih_planning.specs.Calls.View.{HasViewNames, IsViewed, date_in, lawful_view, names_a_day, view_app};
-ghost use Rattle.ih_planning.specs.Calls.View.{view_call, view_files, view_in, view_inputs};
-ghost use Rattle.ih_arguments.specs.Explaining.{IsNoHelp, IsRead};
+ghost use Rattle.std.specs.Prelude.{◌≡◌, map, string_bytes};
+ghost use Rattle.clap.specs.Words.{found_of, rows_of};
+ghost use Rattle.ih_arguments.specs.{Distinct.all_differ, Explaining.IsRead, Matches.call_by};
+ghost use Rattle.ih_planning.specs.Calls.View.{HasViewNames, IsViewed, lawful_view, view_app, view_call, view_files};
+ghost use Rattle.ih_planning.specs.Calls.View.{view_in, view_inputs};
 
 use crate::command::common::{INSTANCE, SOLUTION};
+use crate::command::days::{FROM, first_day, no_day, refused_day};
 use clap::ArgMatches;
 use ih_answers::Role;
 use ih_arguments::argument;
@@ -72,11 +71,7 @@ pub const VIEW: Description<'static, 'static> = Description {
         INSTANCE,
         SOLUTION,
         argument!("PAGE", Kind::Named, "The file that the page is written to"),
-        argument!(
-            "from",
-            Kind::Optional,
-            "The date of day 0, as 2026-01-05, so that days have dates"
-        ),
+        FROM,
         argument!(
             "since",
             Kind::Optional,
@@ -89,24 +84,6 @@ pub const VIEW: Description<'static, 'static> = Description {
         ),
     ],
 };
-
-// The day that a word names, as 2026-01-05. The calendar's reader takes longer and shorter words too.
-fn date_in(word: &str) -> Option<Date>
-    ensures { option_map date_parts result ≡ date_in word.now }
-{
-    if word.len() != 10 {
-        return None;
-    }
-    word.parse().ok()
-}
-
-// The day that the word of `--from` names, where there is such a word and such a day.
-fn first_day(matches: &ArgMatches) -> Option<Date>
-    ensures { option_map date_parts result
-        ≡ option_and_then date_in (first_of (codes "from") (rows_of (found_of matches.now))) }
-{
-    date_in(optional_text_of(matches, "from")?)
-}
 
 // The values of `view`.
 fn view_in<'a>(matches: &ArgMatches<'a>) -> View<'a>
@@ -139,28 +116,6 @@ fn names_differ(view: &View) -> bool
     }
 }
 
-// The word of `--from` that names no day, where there is one.
-fn no_day<'a>(matches: &ArgMatches<'a>, view: &View) -> Option<&'a str>
-    requires { option_map date_parts view.now.from
-        ≡ option_and_then date_in (first_of (codes "from") (rows_of (found_of matches.now))) }
-    ensures { not (is_some result) ≡ names_a_day (rows_of (found_of matches.now)) }
-{
-    match view.from {
-        Some(_) => None,
-        None => optional_text_of(matches, "from"),
-    }
-}
-
-// What is said of a word that names no day.
-fn refused_day(alloc: Global, word: &str) -> NoCall
-    ensures { IsNoHelp result }
-{
-    match format!(in alloc; "'{word}' for '--from' is no date, as 2026-01-05 is one") {
-        Ok(fault) => refused(alloc, fault.as_str()),
-        Err(_) => NoCall::OutOfMemory,
-    }
-}
-
 // Reads the words of `view`.
 pub(crate) fn read_view<'a>(alloc: Global, words: &'a [String]) -> Result<View<'a>, NoCall>
     ensures { IsRead view_call (call_by view_app lawful_view (map string_bytes words.entry.now)) view_app
@@ -169,7 +124,7 @@ pub(crate) fn read_view<'a>(alloc: Global, words: &'a [String]) -> Result<View<'
     match matched(alloc, &VIEW, words) {
         Ok(matches) => {
             let view = view_in(&matches);
-            if let Some(word) = no_day(&matches, &view) {
+            if let Some(word) = no_day(&matches, &view.from) {
                 Err(refused_day(alloc, word))
             } else if names_differ(&view) {
                 Ok(view)

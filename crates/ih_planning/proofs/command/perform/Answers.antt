@@ -29,3 +29,9 @@ returns-in-Carry-clause-ends g c = rw c.in-Carry.is c.perform-in-Carry.ensures.e
 
 pub returns-in-Carry-clause-once : goal.returns-in-Carry-clause-once
 returns-in-Carry-clause-once g c = rw c.in-Carry.is c.perform-in-Carry.ensures.once
+
+pub returns-in-Table-clause-ends : goal.returns-in-Table-clause-ends
+returns-in-Table-clause-ends g c = rw c.in-Table.is c.perform-in-Table.ensures.ends
+
+pub returns-in-Table-clause-once : goal.returns-in-Table-clause-once
+returns-in-Table-clause-once g c = rw c.in-Table.is c.perform-in-Table.ensures.once

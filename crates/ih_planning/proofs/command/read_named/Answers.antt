@@ -11,4 +11,5 @@ returns-in_default-clause-read c =
       other c.args.name.now _ c.in_default.not-bound,
       other c.args.name.now _ c.in_default.not-check,
       other c.args.name.now _ c.in_default.not-carry,
+      other c.args.name.now _ c.in_default.not-table,
     ) (λ e. refl, c.explained_commands.ensures)

@@ -12,7 +12,7 @@ use Rattle.ih_planning.specs.Calls.Improve.{improve_call, improve_inputs, readin
 use Rattle.ih_planning.specs.Rounds.{IsRound, IsSearched}
 use Rattle.ih_planning.specs.Pacing.{IsLawfulPace, most_rounds, rounds_left}
 use Rattle.ih_planning.specs.declared.times.Times.{Times}
-use Rattle.ih_planning.specs.Searching.{IsSearch, task_of}
+use Rattle.ih_planning.specs.Searching.{IsLimit, IsSearch, task_of}
 use Rattle.ih_planning.specs.declared.pacing.Pace.{Pace}
 use Rattle.ih_planning.proofs.ImproveEnding.{nobody-ended}
 use Rattle.ih_planning.proofs.SameSearches.{rounds-few, search-ended, search-of}
@@ -25,8 +25,8 @@ returns-in-Err-clause-ends g c =
     let new = c.read_or_answer.new.shelf in
     let names = g.S.Shelf.names old in
     let unread = subst (λ (f : InputFiles). Answers (EndsUnread names f) c.in-Err.answer) c.names_of.ensures c.in-Err.ensures.unread in
-    search-ended call None names (g.S.Shelf.names new) (HasShelfCause g.S.Shelf old new) _ _ c.conclude.result
-    (unread-ended (IsSearch names call None) (IsRound Leaves (task_of call None)) (IsSearched (task_of call None)) (most_rounds call.pace.length call.pace.rounds)
+    search-ended call None None names (g.S.Shelf.names new) (HasShelfCause g.S.Shelf old new) _ _ c.conclude.result
+    (unread-ended (IsSearch names call None None) (IsRound Leaves (task_of call None None)) (IsSearched (task_of call None None)) (most_rounds call.pace.length call.pace.rounds)
     (improve_inputs call) names (g.S.Shelf.names new) _ _ (told-same names (g.S.Shelf.names new) c.in-Err.ensures.only.kept) (HasShelfCause g.S.Shelf old new)
     c.in-Err.answer unread c.conclude.result c.in-Err.ensures.cause c.conclude.ensures.said)
 
@@ -61,11 +61,14 @@ returns-in-Ok-search_from-clause-ends g c =
     let only = c.in-Ok.ensures.only in
     let same = only.other_count in
     let search = c.in-Ok-search_from.search in
+    let bound = c.in-Ok-limit_of.bound in
     let read = subst (λ (f : InputFiles). HasGiven (g.S.Shelf.names old) f (given_of c.in-Ok.inputs)) c.names_of.ensures c.in-Ok.ensures.read in
-    let is = search-of (g.S.Shelf.names old) c.args.is_found (improve_call c.args.call.now) (given_of c.in-Ok.inputs) search.improver read c.in-Ok-search_from.ensures.search in
+    let same_instance : c.deref-2.result.now.draft ≡ c.in-Ok.inputs.inst.value.draft = cc in
+    let limit = subst (λ (X : Draft). IsLimit call.is_bounded X bound) same_instance c.in-Ok-limit_of.ensures in
+    let is = search-of (g.S.Shelf.names old) c.args.is_found (improve_call c.args.call.now) (given_of c.in-Ok.inputs) bound search.improver read limit c.in-Ok-search_from.ensures.search in
     let held = c.in-Ok.inputs.older in
-    search-ended call held (g.S.Shelf.names old) (g.S.Shelf.names new) (HasShelfCause g.S.Shelf old new) _ _ c.go_on.result
-    (begun-ended (IsSearch (g.S.Shelf.names old) call held) (IsRound Leaves (task_of call held)) (IsSearched (task_of call held))
+    search-ended call held bound (g.S.Shelf.names old) (g.S.Shelf.names new) (HasShelfCause g.S.Shelf old new) _ _ c.go_on.result
+    (begun-ended (IsSearch (g.S.Shelf.names old) call held bound) (IsRound Leaves (task_of call held bound)) (IsSearched (task_of call held bound))
     (most_rounds call.pace.length call.pace.rounds) (improve_inputs call) (g.S.Shelf.names old) (g.S.Shelf.names new) _ _ (g.S.Shelf.names mid) only.kept
     search.improver is (g.S.Shelf.read_faults old) (g.S.Shelf.read_faults mid) (g.S.Shelf.read_faults new) (g.S.Shelf.write_faults old)
     (g.S.Shelf.write_faults mid) (g.S.Shelf.write_faults new) only.count (omega (arith, same)) c.go_on.result
@@ -73,9 +76,22 @@ returns-in-Ok-search_from-clause-ends g c =
       ap (λ t. t.now) c.in-Ok-search_from.ensures.out,
       c.in-Ok-search_from.ensures.held,
       c.in-Ok-search_from.ensures.draft,
+      c.in-Ok-search_from.ensures.bound,
       c.in-Ok-search_from.ensures.pace,
       c.most_rounds.ensures,
     ) at c.go_on.ensures.ends))
+
+pub returns-in_default-limit_of-clause-ends : goal.returns-in_default-limit_of-clause-ends
+returns-in_default-limit_of-clause-ends g c =
+    let call = reading c.args.is_found (improve_call c.args.call.now) in
+    let old = c.args.shelf.now in
+    let new = c.read_or_answer.new.shelf in
+    let names = g.S.Shelf.names old in
+    search-ended call None None names (g.S.Shelf.names new) (HasShelfCause g.S.Shelf old new) _ _ c.conclude_memory.result
+    (unbegun-ended (IsSearch names call None None) (IsRound Leaves (task_of call None None)) (IsSearched (task_of call None None))
+    (most_rounds call.pace.length call.pace.rounds) (improve_inputs call) names (g.S.Shelf.names new) _ _
+    (told-same names (g.S.Shelf.names new) c.in-Ok.ensures.only.kept) (HasShelfCause g.S.Shelf old new) tt c.conclude_memory.ensures.said
+    c.conclude_memory.result c.conclude_memory.ensures.status)
 
 pub returns-clause-ends : goal.returns-clause-ends
 returns-clause-ends g c =
@@ -83,11 +99,11 @@ returns-clause-ends g c =
     let old = c.args.shelf.now in
     let new = c.read_or_answer.new.shelf in
     let names = g.S.Shelf.names old in
-    search-ended call None names (g.S.Shelf.names new) (HasShelfCause g.S.Shelf old new) _ _ c.conclude_memory.result
-    (unbegun-ended (IsSearch names call None) (IsRound Leaves (task_of call None)) (IsSearched (task_of call None))
+    search-ended call None None names (g.S.Shelf.names new) (HasShelfCause g.S.Shelf old new) _ _ c.conclude_memory-in-Err-search_from.result
+    (unbegun-ended (IsSearch names call None None) (IsRound Leaves (task_of call None None)) (IsSearched (task_of call None None))
     (most_rounds call.pace.length call.pace.rounds) (improve_inputs call) names (g.S.Shelf.names new) _ _
-    (told-same names (g.S.Shelf.names new) c.in-Ok.ensures.only.kept) (HasShelfCause g.S.Shelf old new) tt c.conclude_memory.ensures.said
-    c.conclude_memory.result c.conclude_memory.ensures.status)
+    (told-same names (g.S.Shelf.names new) c.in-Ok.ensures.only.kept) (HasShelfCause g.S.Shelf old new) tt c.conclude_memory-in-Err-search_from.ensures.said
+    c.conclude_memory-in-Err-search_from.result c.conclude_memory-in-Err-search_from.ensures.status)
 
 pub returns-in-Some-clause-ends : goal.returns-in-Some-clause-ends
 returns-in-Some-clause-ends g c =

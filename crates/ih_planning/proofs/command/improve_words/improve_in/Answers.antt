@@ -26,6 +26,7 @@ returns-clause-limits c = λ few cool.
       draft = c.optional_text_of.result;
       pins = c.args.pins;
       pin_nurses = c.flag_of-2.result;
+      is_bounded = c.flag_of-3.result;
     } in
     let is : improve_call i ≡ improve_in (rows_of (found_of c.args.matches.now)) = search rules in
     call-lawful (rows_of (found_of c.args.matches.now)) c.requires.rows (improve_call i) is (few, cool)
