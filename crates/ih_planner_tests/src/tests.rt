@@ -1,5 +1,6 @@
 //! The tests, by what they call, and the program that they try.
 
+mod bounded;
 mod bounds;
 mod carries;
 mod checks;
@@ -7,6 +8,7 @@ mod improving;
 mod keeping;
 mod program;
 mod repairs;
+mod tables;
 mod timed;
 mod views;
 mod views_changes;
