@@ -85,20 +85,11 @@ impl<'a> ImproveWorker<'a> {
         })
     }
 
-    // Whether the worker leaves its own timetable for the best so far: in the last tenth of the schedule, or where the
-    // best is cheaper by more than the heat for each person; always where changes count. One that took everybody out
-    // stays as long as nothing feasible is found.
-    fn takes_over(&self, leg: &Leg<'_>, pace: &Pace) -> bool {
-        leg.know_leg();
-        let (settings, span) = (leg.settings(), leg.span());
-        let inst = leg.instance();
-        let own = inst.score_of(settings.hard, self.walker.bill());
-        let best = inst.score_of(settings.hard, self.walker.best_bill());
-        let far = (pace.cooling.at(span.from) >> 16) * u64::from(inst.persons());
-        let goes_alone = self.is_emptied && !leg.standing().bill.feasible();
-        settings.keep > 0
-            || span.whole - span.whole / 10 <= span.from
-            || (!goes_alone && own.saturating_sub(best) > far as i64)
+    // Whether the worker leaves its own timetable for the best so far: in the last tenth of the schedule, and always
+    // where changes count. Before that it is hot, and each time that it is taken back to the best it loses what it won.
+    fn takes_over(&self, leg: &Leg<'_>) -> bool {
+        let span = leg.span();
+        leg.settings().keep > 0 || span.whole - span.whole / 10 <= span.from
     }
 
     // Whether the worker goes on from nobody: every second one, once, where nothing feasible is found after a tenth of
@@ -113,14 +104,14 @@ impl<'a> ImproveWorker<'a> {
     }
 
     // Begins a round, where the worker stands or on the best timetable so far.
-    fn begin_round(&mut self, leg: &Leg<'_>, pace: &Pace)
+    fn begin_round(&mut self, leg: &Leg<'_>)
         requires instance { self.old.walker.instance ≡ leg.now.instance }
         requires stands { MayStand (terms_of_leg leg.now) self.old.walker.now }
         ensures { IsUnderway leg.now self.new.walker }
     {
         leg.know_leg();
         self.walker.begin_with_best(leg.from(), leg.standing());
-        if self.takes_over(leg, pace) {
+        if self.takes_over(leg) {
             self.walker.go_to_best(leg.settings().keep);
         }
     }
@@ -311,7 +302,7 @@ impl<'a> Walks for ImproveWorker<'a> {
         leg.know_leg();
         let pace = Pace::of_round(leg, worker_no);
         self.words = RandomWords::new(leg.settings().seed, leg.round(), worker_no as u32);
-        self.begin_round(leg, &pace);
+        self.begin_round(leg);
         if self.begins_empty(leg, worker_no) {
             self.take_all_out(leg, &pace);
         }
