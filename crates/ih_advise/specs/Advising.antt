@@ -36,7 +36,7 @@ value_of I hard P w = write_score I hard (λ b. b) P w
 unfoldable pub best_write : Draft → ℕ → Timetable → Choice → Write
 best_write I hard P c = cheapest (value_of I hard P) (clearing c) (setting_writes I c)
 
--- the same with its value
+-- the replacement of least value, the first on a tie, with that value
 abbrev pub best_of : Draft → ℕ → Timetable → Choice → Candidate
 best_of I hard P c = valued (value_of I hard P) (best_write I hard P c)
 

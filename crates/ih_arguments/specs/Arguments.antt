@@ -45,7 +45,7 @@ repeated id = record (new_rule id) { long = Some id; action = Some Append }
 abbrev pub optional_between : Text → ℕ → ℕ → Rule
 optional_between id low high = record (optional id) { parser = Some (Unsigned low high) }
 
--- the same, where N is at most high
+-- `--id N`, which may be left out, where N is a number up to high
 abbrev pub optional_number : Text → ℕ → Rule
 optional_number id high = optional_between id 0 high
 

@@ -27,7 +27,7 @@ pub record Requires (a : App) (k : ℕ) (rule : Rule) : Type 0 where
   pub action : rule.action ≡ Some Set
   pub range : rule.range ≡ None
 
--- the same, and the value is a number from low to high
+-- the argument at place k has this rule, by which it is required and has one value: a number from low to high
 pub record RequiresNumber (a : App) (k : ℕ) (rule : Rule) (low high : ℕ) : Type 0 where
   pub value : Requires a k rule
   pub parser : rule.parser ≡ Some (Unsigned low high)

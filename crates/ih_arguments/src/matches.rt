@@ -78,7 +78,7 @@ pub fn u64_of(matches: &ArgMatches, id: &str) -> u64
     matches.get_one::<u64>(id).unwrap()
 }
 
-/// The same, of a number that fits 32 bits.
+/// The number of an argument that has one of at most 32 bits.
 pub fn u32_of(matches: &ArgMatches, id: &str) -> u32
     requires { HasNumber 0 4294967295 id.now (rows_of (found_of matches.now)) }
     ensures { result ≡ number_at id.now (rows_of (found_of matches.now)) }
@@ -102,7 +102,7 @@ pub fn number_if_given(matches: &ArgMatches, id: &str) -> Option<u32>
     matches.get_one::<u32>(id)
 }
 
-/// The same, of any number of 64 bits.
+/// The number, of at most 64 bits, of an argument that may be left out; none where it is left out.
 pub fn any_number_if_given(matches: &ArgMatches, id: &str) -> Option<u64>
     requires { IsNumberIfGiven 0 18446744073709551615 id.now (rows_of (found_of matches.now)) }
     ensures { result ≡ number_if_given id.now (rows_of (found_of matches.now)) }

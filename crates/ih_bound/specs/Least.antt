@@ -14,7 +14,7 @@ use Rattle.ih_bound.specs.Paid.{care_paid, paid}
 abbrev pub BoundsPerson : Draft → Rates → Tariff → ℕ → ℕ → Type 0
 BoundsPerson I rates t x least = (P : Timetable) → IsFeasible I P → least ≤ paid I rates t P x
 
--- the same where patient p is admitted on a day that passes
+-- patient p pays at least so much in each feasible timetable that admits the patient on a day that passes
 abbrev pub BoundsAdmitted : Draft → Rates → Tariff → ℕ → (ℕ → Type 0) → ℕ → Type 0
 BoundsAdmitted I rates t p on least =
     (P : Timetable) (at : Placement) → IsFeasible I P → stay_of P p ≡ Some at → on at.day.0 → least ≤ paid I rates t P p

@@ -17,7 +17,7 @@ use Rattle.ih_bound.specs.Tariffs.{Tariff}
 abbrev pub care_price : Draft → Rates → Tariff → ℕ → ℕ → ℕ → ℕ → ℕ
 care_price I rates t skill load k n = rates.skill * (skill - skill_level I n) + t.work n k * load
 
--- the same by the nurse who is there, if any
+-- what care in shift k by the nurse who is there is worth: the missing skill, and the price of the workload; else 0
 abbrev pub care_price_of : Draft → Rates → Tariff → ℕ → ℕ → ℕ → Option ℕ → ℕ
 care_price_of I rates t skill load k None = 0
 care_price_of I rates t skill load k (Some n) = care_price I rates t skill load k n

@@ -47,7 +47,7 @@ plan_text j (AtLeast b) =
     else codes "this one breaks hard rules\n"
 plan_text j Infeasible = codes "this one breaks hard rules\n"
 
--- the same where one was judged
+-- what is said of the timetable that was judged: nothing where none was
 abbrev pub judged_text : Option Judged → Outcome → List ℕ
 judged_text None outcome = []
 judged_text (Some j) outcome = plan_text j outcome

@@ -42,7 +42,7 @@ pub fn ascend<R: Threads + Sync>(
     ascend_by(rt, alloc, inst, rates, effort, workers.as_mut_slice())
 }
 
-// The same with these workers.
+// A lower bound of what each feasible timetable is worth: the best value of all rounds of these workers.
 fn ascend_by<R: Threads + Sync>(
     rt: &R,
     alloc: Global,

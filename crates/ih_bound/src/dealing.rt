@@ -1,13 +1,13 @@
 //! Workers side by side: each finds what the persons who are dealt to it pay at least.
 
 ghost use Rattle.std.specs.Prelude.{◌≡◌, ◌<◌, ◌≤◌, ℕ, [], All, IfOk, length, slice_index_or};
+ghost use Rattle.std.specs.Fork.{AcceptsEach, ChangesEach};
 ghost use Rattle.ih_tables.specs.Sizes.{person_count};
 ghost use Rattle.ih_plan.specs.Sums.{sum_below};
 ghost use Rattle.ih_plan.specs.Timetable.{Timetable};
 ghost use Rattle.ih_bound.specs.Bounds.{IsFeasible};
 ghost use Rattle.ih_bound.specs.Least.{AreFloors, BoundsPerson};
 ghost use Rattle.ih_bound.specs.Tariffs.{tariff_of};
-ghost use Rattle.ih_bound.specs.Paid.{paid};
 ghost use Rattle.ih_bound.specs.Dealing.{HasFloors, BoundsDealt, dealt_paid};
 
 use crate::demand::Demand;
@@ -130,23 +130,6 @@ impl BoundWorker {
         }
         self.sum = sum;
     }
-
-    fn raise_floors(
-        &mut self,
-        inst: &Instance,
-        rates: &Rates,
-        free: &Prices,
-        workers: usize,
-        worker: usize,
-    )
-        requires free { free.now.work.items ≡ [] }
-        requires worker { worker < workers }
-        requires floors { HasFloors inst.now.draft rates.now self.old }
-        ensures { HasFloors inst.now.draft rates.now self.new }
-    {
-        self.floors
-            .raise(inst, rates, free, workers, worker, &mut self.scratch);
-    }
 }
 
 /// So many workers.
@@ -164,6 +147,18 @@ pub fn new_workers(
     Ok(workers)
 }
 
+// Lets each worker do its job, in a thread of its own where one can be started.
+fn side_by_side<R: Threads + Sync, F: Fn(usize, &mut BoundWorker) + Sync>(
+    rt: &R,
+    workers: &mut [BoundWorker],
+    job: &F,
+)
+    requires { AcceptsEach F.Fn job.now workers.old }
+    ensures { ChangesEach F.Fn job.now workers.old workers.new }
+{
+    for_each_mut(rt, workers, MOST_WORKERS as usize, job);
+}
+
 /// Lets each worker find what care costs its patients at least, whatever the prices.
 pub fn raise_floors<R: Threads + Sync>(
     rt: &R,
@@ -177,18 +172,20 @@ pub fn raise_floors<R: Threads + Sync>(
     ensures { All (HasFloors inst.now.draft rates.now) workers.new }
 {
     let count = workers.len();
-    for_each_mut(
+    side_by_side(
         rt,
         workers,
-        MOST_WORKERS as usize,
         &|worker, w|
             requires { (free.now.work.items ≡ []) × (worker < count) × HasFloors inst.now.draft rates.now w.now }
-        { w.raise_floors(inst, rates, free, count, worker) },
+        {
+            w.floors
+                .raise(inst, rates, free, count, worker, &mut w.scratch)
+        },
     );
 }
 
-// Lets each worker look at the persons who are dealt to it, in a thread of its own where one can be started.
-fn sum_all<R: Threads + Sync>(
+/// Lets each worker look at the persons who are dealt to it.
+pub fn sum_all<R: Threads + Sync>(
     rt: &R,
     inst: &Instance,
     rates: &Rates,
@@ -202,18 +199,17 @@ fn sum_all<R: Threads + Sync>(
         (tariff_of inst.now.draft rates.now prices.now) (length workers.old) k (slice_index_or workers.new k d).sum }
 {
     let count = workers.len();
-    for_each_mut(
+    side_by_side(
         rt,
         workers,
-        MOST_WORKERS as usize,
         &|worker, w|
             requires { (worker < count) × HasFloors inst.now.draft rates.now w.now }
         { w.sum_dealt(inst, rates, prices, count, worker) },
     );
 }
 
-// What they found, added up.
-fn sum_of(workers: &[BoundWorker]) -> u64
+/// What they found, added up.
+pub fn sum_of(workers: &[BoundWorker]) -> u64
     ensures { (f : ℕ → ℕ)
         → ((k : ℕ) (d : BoundWorker) → k < length workers.now → (slice_index_or workers.now k d).sum ≤ f k)
         → result ≤ sum_below (length workers.now) f }
@@ -223,21 +219,4 @@ fn sum_of(workers: &[BoundWorker]) -> u64
         sum = sum.saturating_add(w.sum);
     }
     sum
-}
-
-/// At most what all persons pay.
-pub fn least_of_all<R: Threads + Sync>(
-    rt: &R,
-    inst: &Instance,
-    rates: &Rates,
-    prices: &Prices,
-    workers: &mut [BoundWorker],
-) -> u64
-    requires { All (HasFloors inst.now.draft rates.now) workers.old }
-    ensures floors { All (HasFloors inst.now.draft rates.now) workers.new }
-    ensures least { (P : Timetable) → IsFeasible inst.now.draft P → result ≤ sum_below (person_count inst.now.draft)
-        (paid inst.now.draft rates.now (tariff_of inst.now.draft rates.now prices.now) P) }
-{
-    sum_all(rt, inst, rates, prices, workers);
-    sum_of(workers)
 }

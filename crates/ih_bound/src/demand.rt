@@ -5,20 +5,20 @@ ghost use Rattle.ih_tables.specs.Sizes.{patient_count, shift_count};
 
 use crate::numbers::put;
 use crate::prices::{Prices, Rates, at, opening, place};
-use crate::scratch::{Scratch, zeros};
+use crate::scratch::Scratch;
 use crate::stays::{Stay, care_price, need_at};
 use ih_plan::end_from;
 use ih_tables::{Instance, NurseNo, Patient, PatientNo, Shift, TheatreNo};
 use ih_validate::{Resource, limit_of};
 use std::alloc::{AllocError, Global};
 
-/// Amounts that are asked for, in lists like those of prices.
+/// Amounts of what is scarce, in lists like those of its prices.
+pub type Amounts = Prices;
+
+/// What is asked for.
 #[derive(Drop)]
 pub struct Demand {
-    pub bed: Vec<u64>,
-    pub surgeon: Vec<u64>,
-    pub theatre: Vec<u64>,
-    pub work: Vec<u64>,
+    pub amounts: Amounts,
     /// What it is worth that patients wait and are left out, and what theatres cost at what it is worth to open them.
     pub spent: Spent,
 }
@@ -100,32 +100,30 @@ fn cheapest_theatre(inst: &Instance, prices: &Prices, day: u32, minutes: u32) ->
 impl Demand {
     /// Nothing is asked for.
     pub fn new(alloc: Global, inst: &Instance) -> Result<Demand, AllocError> {
-        let days = inst.days() as usize;
-        let shifts = inst.shifts() as usize;
         Ok(Demand {
-            bed: zeros(alloc, days)?,
-            surgeon: zeros(alloc, days * inst.surgeons() as usize)?,
-            theatre: zeros(alloc, days * inst.theatres() as usize)?,
-            work: zeros(alloc, shifts * inst.nurses() as usize)?,
+            amounts: Amounts::new(alloc, inst)?,
             spent: Spent::none(),
         })
     }
 
     /// Takes out all that was asked for.
     pub fn clear(&mut self) {
-        clear(self.bed.as_mut_slice());
-        clear(self.surgeon.as_mut_slice());
-        clear(self.theatre.as_mut_slice());
-        clear(self.work.as_mut_slice());
+        let amounts = &mut self.amounts;
+        clear(amounts.bed.as_mut_slice());
+        clear(amounts.surgeon.as_mut_slice());
+        clear(amounts.theatre.as_mut_slice());
+        clear(amounts.work.as_mut_slice());
         self.spent = Spent::none();
     }
 
     /// Adds what another asks for.
     pub fn add_all(&mut self, other: &Demand) {
-        add_list(self.bed.as_mut_slice(), other.bed.as_slice());
-        add_list(self.surgeon.as_mut_slice(), other.surgeon.as_slice());
-        add_list(self.theatre.as_mut_slice(), other.theatre.as_slice());
-        add_list(self.work.as_mut_slice(), other.work.as_slice());
+        let amounts = &mut self.amounts;
+        let others = &other.amounts;
+        add_list(amounts.bed.as_mut_slice(), others.bed.as_slice());
+        add_list(amounts.surgeon.as_mut_slice(), others.surgeon.as_slice());
+        add_list(amounts.theatre.as_mut_slice(), others.theatre.as_slice());
+        add_list(amounts.work.as_mut_slice(), others.work.as_slice());
         self.spent.add(&other.spent);
     }
 
@@ -155,7 +153,7 @@ impl Demand {
                 put(scratch.served.as_mut_slice(), k as usize, 1);
                 let load = need_at(stay.load, k - stay.first);
                 add(
-                    self.work.as_mut_slice(),
+                    self.amounts.work.as_mut_slice(),
                     place(inst.shifts(), nurse.0, k),
                     load as u64,
                 );
@@ -193,18 +191,18 @@ impl Demand {
         day: u32,
     ) {
         for d in day..end_from(inst, day, patient.length_of_stay) {
-            add(self.bed.as_mut_slice(), d as usize, 1);
+            add(self.amounts.bed.as_mut_slice(), d as usize, 1);
         }
         let days = inst.days();
         let minutes = patient.surgery_duration;
         let t = cheapest_theatre(inst, prices, day, minutes);
         add(
-            self.surgeon.as_mut_slice(),
+            self.amounts.surgeon.as_mut_slice(),
             place(days, patient.surgeon_id.0, day),
             minutes as u64,
         );
         add(
-            self.theatre.as_mut_slice(),
+            self.amounts.theatre.as_mut_slice(),
             place(days, t, day),
             minutes as u64,
         );

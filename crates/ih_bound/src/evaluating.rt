@@ -6,7 +6,7 @@ ghost use Rattle.ih_bound.specs.Bounds.{IsFeasible};
 ghost use Rattle.ih_bound.specs.Tariffs.{worth};
 ghost use Rattle.ih_bound.specs.Dealing.{HasFloors};
 
-use crate::dealing::{BoundWorker, least_of_all};
+use crate::dealing::{BoundWorker, sum_all, sum_of};
 use crate::incomes::income;
 use crate::prices::{Prices, Rates};
 use ih_tables::Instance;
@@ -25,6 +25,7 @@ pub fn evaluate<R: Threads + Sync>(
     ensures floors { All (HasFloors inst.now.draft rates.now) workers.new }
     ensures least { (P : Timetable) → IsFeasible inst.now.draft P → result ≤ worth inst.now.draft rates.now P }
 {
-    let paid = least_of_all(rt, inst, rates, prices, workers);
+    sum_all(rt, inst, rates, prices, workers);
+    let paid = sum_of(workers);
     paid.saturating_sub(income(inst, rates, prices))
 }

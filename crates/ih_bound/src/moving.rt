@@ -150,7 +150,10 @@ impl Directions {
         let mut asked: u64 = 0;
         let mut supply: u64 = 0;
         for t in 0..inst.theatres() {
-            asked = asked.saturating_add(at(demand.theatre.as_slice(), place(inst.days(), t, day)));
+            asked = asked.saturating_add(at(
+                demand.amounts.theatre.as_slice(),
+                place(inst.days(), t, day),
+            ));
             supply = supply.saturating_add(limit_of(inst, Resource::OfTheatre(TheatreNo(t)), day));
         }
         let list = self.theatre.as_mut_slice();
@@ -169,14 +172,14 @@ impl Directions {
     pub fn turn(&mut self, inst: &Instance, demand: &Demand, persons: &[u64]) {
         let beds = beds(inst);
         for d in 0..inst.days() {
-            let asked = at(demand.bed.as_slice(), d as usize).saturating_add(at(
+            let asked = at(demand.amounts.bed.as_slice(), d as usize).saturating_add(at(
                 persons, d as usize,
             ));
             smooth(self.bed.as_mut_slice(), d as usize, asked, beds, 3, 4, 16);
             self.turn_theatres(inst, demand, d);
             for s in 0..inst.surgeons() {
                 let i = place(inst.days(), s, d);
-                let asked = at(demand.surgeon.as_slice(), i);
+                let asked = at(demand.amounts.surgeon.as_slice(), i);
                 let supply = limit_of(inst, Resource::OfSurgeon(SurgeonNo(s)), d);
                 let list = self.surgeon.as_mut_slice();
                 smooth(list, i, asked / MINUTES, supply / MINUTES, 3, 4, 16);
@@ -193,7 +196,7 @@ impl Directions {
                     None => continue,
                 };
                 let i = place(inst.shifts(), n, k);
-                let asked = at(demand.work.as_slice(), i);
+                let asked = at(demand.amounts.work.as_slice(), i);
                 let price = at(prices.work.as_slice(), i);
                 let stuck = (price == 0 && asked < most) || (price >= rates.load && asked > most);
                 let supply = if stuck { asked } else { most };

@@ -155,98 +155,88 @@ pub fn patient_care(
     care(inst, rates, prices, &stay, scratch)
 }
 
-// The lesser of what was found so far and of what a patient pays who is admitted on a day.
-fn lower_by(
-    inst: &Instance,
-    rates: &Rates,
-    prices: &Prices,
-    floors: &Floors,
-    patient: PatientNo,
-    day: u32,
-    so_far: u64,
-    scratch: &mut Scratch,
-) -> u64
-    requires floors { AreFloors inst.now.draft rates.now floors.now.list.items }
-    requires patient { patient.0 < patient_count inst.now.draft }
-    requires day { day < inst.now.draft.days }
-    ensures no_more { result ≤ so_far }
-    ensures day { (P : Timetable) (at : Placement) → IsFeasible inst.now.draft P → stay_of P patient.0 ≡ Some at
-        → at.day.0 ≡ day
-        → result ≤ paid inst.now.draft rates.now (tariff_of inst.now.draft rates.now prices.now) P patient.0 }
-{
-    let base = base_cost(inst, rates, prices, patient, day);
-    let floor = floors.of(inst, patient, day);
-    if base.saturating_add(floor) >= so_far {
-        return so_far;
-    }
-    let care = patient_care(inst, rates, prices, patient, day, scratch).max(floor);
-    scratch.numbered = Some(day);
-    let all = base.saturating_add(care);
-    if all < so_far {
-        scratch.day = Some(day);
-        all
-    } else {
-        so_far
-    }
-}
-
-// The same for a day that is tried before others, where there is one and it is in the window.
-fn lower_first(
-    inst: &Instance,
-    rates: &Rates,
-    prices: &Prices,
-    floors: &Floors,
+// A patient whose least payment is looked for, with the day that is tried before others, where there is one.
+#[derive(Drop)]
+struct Case<'a> {
+    inst: &'a Instance,
+    rates: &'a Rates,
+    prices: &'a Prices,
+    floors: &'a Floors,
     patient: PatientNo,
     hint: Option<u32>,
-    end: u32,
-    so_far: u64,
-    scratch: &mut Scratch,
-) -> u64
-    requires floors { AreFloors inst.now.draft rates.now floors.now.list.items }
-    requires patient { patient.0 < patient_count inst.now.draft }
-    requires end { end ≤ inst.now.draft.days }
-    ensures no_more { result ≤ so_far }
-    ensures day { IsTried inst.now.draft rates.now
-        (tariff_of inst.now.draft rates.now prices.now) patient.0 end hint result }
-{
-    match hint {
-        None => so_far,
-        Some(a) => {
-            if a < end {
-                lower_by(inst, rates, prices, floors, patient, a, so_far, scratch)
-            } else {
-                so_far
+    ghost floors_hold: { AreFloors inst.now.draft rates.now floors.now.list.items },
+    ghost patient_fits: { patient.0 < patient_count inst.now.draft },
+}
+
+impl Case<'_> {
+    // The lesser of what was found so far and of what the patient pays who is admitted on a day.
+    fn lower_by(&self, day: u32, so_far: u64, scratch: &mut Scratch) -> u64
+        requires day { day < self.now.inst.now.draft.days }
+        ensures no_more { result ≤ so_far }
+        ensures day { let x = self.now in (P : Timetable) (at : Placement) → IsFeasible x.inst.now.draft P
+            → stay_of P x.patient.0 ≡ Some at → at.day.0 ≡ day → result
+            ≤ paid x.inst.now.draft x.rates.now (tariff_of x.inst.now.draft x.rates.now x.prices.now) P x.patient.0 }
+    {
+        let base = base_cost(self.inst, self.rates, self.prices, self.patient, day);
+        let floor = self.floors.of(self.inst, self.patient, day);
+        if base.saturating_add(floor) >= so_far {
+            return so_far;
+        }
+        let care = patient_care(
+            self.inst,
+            self.rates,
+            self.prices,
+            self.patient,
+            day,
+            scratch,
+        )
+        .max(floor);
+        scratch.numbered = Some(day);
+        let all = base.saturating_add(care);
+        if all < so_far {
+            scratch.day = Some(day);
+            all
+        } else {
+            so_far
+        }
+    }
+
+    // The lesser of what was found so far and of what the patient pays who is admitted on the day that is tried
+    // first. It is what was found so far, where no day is tried first or that day is past the window.
+    fn lower_first(&self, end: u32, so_far: u64, scratch: &mut Scratch) -> u64
+        requires end { end ≤ self.now.inst.now.draft.days }
+        ensures no_more { result ≤ so_far }
+        ensures day { let x = self.now in IsTried x.inst.now.draft x.rates.now
+            (tariff_of x.inst.now.draft x.rates.now x.prices.now) x.patient.0 end x.hint result }
+    {
+        match self.hint {
+            None => so_far,
+            Some(a) => {
+                if a < end {
+                    self.lower_by(a, so_far, scratch)
+                } else {
+                    so_far
+                }
             }
         }
     }
-}
 
-// The same for another day, and no less for the day that was tried before others.
-fn lower_next(
-    inst: &Instance,
-    rates: &Rates,
-    prices: &Prices,
-    floors: &Floors,
-    patient: PatientNo,
-    hint: Option<u32>,
-    day: u32,
-    so_far: u64,
-    scratch: &mut Scratch,
-) -> u64
-    requires floors { AreFloors inst.now.draft rates.now floors.now.list.items }
-    requires patient { patient.0 < patient_count inst.now.draft }
-    requires day { day < inst.now.draft.days }
-    requires tried { IsTried inst.now.draft rates.now (tariff_of inst.now.draft rates.now prices.now) patient.0 (day
-        + 1) hint so_far }
-    ensures no_more { result ≤ so_far }
-    ensures day { (P : Timetable) (at : Placement) → IsFeasible inst.now.draft P → stay_of P patient.0 ≡ Some at
-        → at.day.0 ≡ day
-        → result ≤ paid inst.now.draft rates.now (tariff_of inst.now.draft rates.now prices.now) P patient.0 }
-{
-    if hint == Some(day) {
-        so_far
-    } else {
-        lower_by(inst, rates, prices, floors, patient, day, so_far, scratch)
+    // The lesser of what was found so far and of what the patient pays who is admitted on a day. It is what was found
+    // so far, where that day was tried first.
+    fn lower_next(&self, day: u32, so_far: u64, scratch: &mut Scratch) -> u64
+        requires day { day < self.now.inst.now.draft.days }
+        requires tried { let x = self.now in IsTried x.inst.now.draft x.rates.now
+            (tariff_of x.inst.now.draft x.rates.now x.prices.now) x.patient.0 (day + 1) x.hint so_far }
+        ensures no_more { result ≤ so_far }
+        ensures day { let x = self.now in (P : Timetable) (at : Placement) → IsFeasible x.inst.now.draft P
+            → stay_of P x.patient.0 ≡ Some at → at.day.0 ≡ day → result
+            ≤ paid x.inst.now.draft x.rates.now (tariff_of x.inst.now.draft x.rates.now x.prices.now) P x.patient.0 }
+    {
+        if self.hint == Some(day) {
+            so_far
+        } else {
+            self.lower_by(day, so_far, scratch)
+        }
     }
 }
 
@@ -268,14 +258,17 @@ fn least_admitted(
 {
     let first = inst.patient(patient).surgery_release_day;
     let end = window_end(inst, patient);
-    let hint = scratch.begin(patient);
-    let mut least = lower_first(
-        inst, rates, prices, floors, patient, hint, end, most, scratch,
-    );
+    let case = Case {
+        inst,
+        rates,
+        prices,
+        floors,
+        patient,
+        hint: scratch.begin(patient),
+    };
+    let mut least = case.lower_first(end, most, scratch);
     for a in first..end {
-        least = lower_next(
-            inst, rates, prices, floors, patient, hint, a, least, scratch,
-        );
+        least = case.lower_next(a, least, scratch);
     }
     scratch.end(patient);
     least

@@ -119,7 +119,7 @@ impl Prices {
         })
     }
 
-    /// The same, in lists that have nothing.
+    /// Nothing has a price, and no list has an entry. It takes no memory.
     pub fn free(alloc: Global) -> Prices
         ensures { result.work.items ≡ [] }
     {

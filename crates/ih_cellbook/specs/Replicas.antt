@@ -69,11 +69,11 @@ pub record IsOfferWith (b : Base) (H : List Tried) (w n : ℕ) (m : List Move) (
   pub reads : o.reads.pairs ≡ cells
   pub frozen : o.frozen ≡ is_frozen b (plan_after b H) m
 
--- The same with all cells of the footprint there, each with its version.
+-- The offer of worker w of this number and these moves after H, with all cells of the footprint and their versions.
 abbrev pub IsPricedAfter : Base → List Tried → ℕ → ℕ → List Move → Offered → Type 0
 IsPricedAfter b H w n m o = IsOfferWith b H w n m (reads_after b H m) o
 
--- The same with the cells that the verdict rests on: none where it rests on none.
+-- The offer of worker w of this number and these moves after H, with the cells that its verdict rests on, if any.
 abbrev pub IsOfferAfter : Base → List Tried → ℕ → ℕ → List Move → Offered → Type 0
 IsOfferAfter b H w n m o =
     IsOfferWith b H w n m (if is_compared b.instance b.options o.frozen n o.price then reads_after b H m else []) o
@@ -83,7 +83,7 @@ IsOfferAfter b H w n m o =
 abbrev pub IsOfferOf : ReplicaState → ℕ → List Move → Offered → Type 0
 IsOfferOf r n m o = (b : Base) (H : List Tried) → IsReplicaOf b H r → IsOfferAfter b H r.worker n m o
 
--- The same with all cells of the footprint there.
+-- Whatever history the replica stands for, the offer is that of its worker after it, with all cells of the footprint.
 abbrev pub IsPricedOf : ReplicaState → ℕ → List Move → Offered → Type 0
 IsPricedOf r n m o = (b : Base) (H : List Tried) → IsReplicaOf b H r → IsPricedAfter b H r.worker n m o
 

@@ -87,8 +87,8 @@ impl<'a> ChainReplica<'a> {
         self.last()
     }
 
-    /// The same, but with the cells that the verdict rests on: those of the footprint where the price's score is at
-    /// most what the number may cost, and else none.
+    /// The offer of its worker for a chain of this number, priced after the entries that it stands for. It has the
+    /// footprint's cells and versions where its score is at most what the number may cost, and else no cells.
     pub fn offer(&mut self, moves: &Chain, attempt_no: u32) -> &ChainOffer
         requires { AreMoves self.old.base.instance moves.now }
         ensures offer { IsOfferOf self.old attempt_no moves.now (chain_offered result.now) }

@@ -194,7 +194,7 @@ impl<'a> Ledgers<'a> {
         }
     }
 
-    // The same for moves of any number.
+    // What moves in a row, however many, would add to the bill together, number by number. The ledgers stay.
     fn price_row(&mut self, moves: &[Move]) -> Bill
         requires { AreMoves self.old.instance moves.now }
         ensures price { result ≡ price_of_all self.old.instance self.old.plan moves.now }
@@ -225,7 +225,7 @@ impl<'a> Ledgers<'a> {
         }
     }
 
-    // The same for moves of any number.
+    // Lists the cells of the footprints of moves in a row, however many, in `foot`, rising, in place of the old ones.
     fn foot_row(&mut self, moves: &[Move], foot: &mut CellList)
         requires moves { AreMoves self.old.instance moves.now }
         requires sizes { foot.old.sizes ≡ sizes_of self.old.instance }

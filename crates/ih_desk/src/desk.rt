@@ -88,8 +88,8 @@ impl<'a, E: Logged> DeskOver<Turn<Book<'a, E>>> {
         held.give()
     }
 
-    /// As `look`, but the news have what was accepted from place `from` on: up to the end, or up to where their room
-    /// for 256 accepted entries is full.
+    /// Looks at the history, which the seat has then seen whole, by one turn of the seat. It takes no memory.
+    /// The news have what was accepted from place `from` on: up to the end, or up to 256 accepted entries.
     pub fn look_for_news<R: Wait>(
         &self,
         rt: &R,
@@ -125,8 +125,8 @@ impl<'a, E: Logged> DeskOver<Turn<Book<'a, E>>> {
         (held.give(), verdict)
     }
 
-    /// As `offer`, and by the same turn the news have what was accepted of the entries that the offer hadn't seen, its
-    /// own entry the last of them: up to the end, or up to where their room for 256 accepted entries is full.
+    /// Offers the next attempt of the seat's worker, and answers its verdict. By the same turn the news have what was
+    /// accepted that the offer had not seen, its own entry the last: up to the end, or to 256 accepted entries.
     pub fn offer_and_look<R: Wait>(
         &self,
         rt: &R,

@@ -4,10 +4,11 @@ ghost use Rattle.std.specs.Prelude.{IsSome};
 
 use crate::desk::DeskSeat;
 use crate::worker_loop::WorkerLoop;
-use ih_cellbook::{Opens, Replicates};
+use ih_cellbook::{Book, Opens, Replicates};
 use ih_journal::Options;
 use ih_plan::Plan;
 use ih_tables::Instance;
+use ih_turn::Seat;
 use std::alloc::{AllocError, Global};
 
 /// One of the workers of a search, with its seat at the desk. Both are parameters, since a struct can't hold a seat of
@@ -21,7 +22,7 @@ pub struct Seated<S, T> {
 }
 
 /// A worker that prices on such replicas.
-pub type WorkerOn<'a, C> = Seated<WorkerLoop<'a, C>, DeskSeat<'a, <C as Replicates>::Entry>>;
+pub type WorkerOn<'a, C> = Seated<WorkerLoop<'a, C>, Seat<Book<'a, <C as Replicates>::Entry>>>;
 
 impl<'a, C: Opens<'a>> WorkerOn<'a, C> {
     ghost use Rattle.std.specs.Prelude.{◌≡◌, ◌≤◌, ℕ, IfOk, IfErr};

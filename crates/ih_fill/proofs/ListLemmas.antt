@@ -30,6 +30,11 @@ rooms-more a r = ap (filter (suits a)) (range-more 0 r r (omega arith)) ∙ filt
 pub listed-more : {A : Type 0} (xs : List A) (f : ℕ → A) (n : ℕ) → (xs ++ map f (range_with_len 0 n)) ++ f n ∷ [] ≡ xs ++ map f (range_with_len 0 (n + 1))
 listed-more xs f n = append_assoc xs (map f (range_with_len 0 n)) (f n ∷ []) ∙ ap (λ ys. xs ++ ys) (sym (map-range_with_len_more f 0 n n (omega arith)))
 
+-- what a push makes of such a list
+pub push-more : {A : Type 0} (old before after : List A) (f : ℕ → A) (n : ℕ) → before ≡ old ++ map f (range_with_len 0 n) → after ≡ before ++ f n ∷ []
+    → after ≡ old ++ map f (range_with_len 0 (n + 1))
+push-more old before after f n so_far pushed = pushed ∙ (ap (λ xs. xs ++ f n ∷ []) so_far ∙ listed-more old f n)
+
 -- the stays on a day, with one room more
 pub on-more : (f : ℕ → List Write) (a : Patient) (r : ℕ) → suits a r ≡ true → flat_map f (rooms_for a (r + 1)) ≡ flat_map f (rooms_for a r) ++ f r
 on-more f a r e = ap (flat_map f) (rooms-more a r ∙ ap (λ b. rooms_for a r ++ cond b (r ∷ []) []) e)

@@ -42,7 +42,7 @@ pub record IsLocalWrite (I : Draft) (P Q : Timetable) (w : Write) : Type 0 where
   pub afterwards : (c : Cell) → IsCellOf I c → content_of I Q c ≡ content_of I P c
       → content_of I (put w Q) c ≡ content_of I (put w P) c
 
--- So it is where both have the same contents on the write's footprint.
+-- A write does at Q what it does at P where both have the same contents on its footprint.
 abbrev pub WritesAreLocal : Draft → Type 0
 WritesAreLocal I = (P Q : Timetable) (w : Write) → IsPlanOf I P → IsPlanOf I Q → IsWriteOf I w
     → AreSameOn I (write_touches I P w) P Q → IsLocalWrite I P Q w
@@ -52,7 +52,7 @@ pub record AreLocalWrites (I : Draft) (P Q : Timetable) (ws : List Write) (passe
   pub touched : (c : Cell) → IsCellOf I c → writes_touch I Q ws c ≡ writes_touch I P ws c
   pub afterwards : AreSameOn I passes (put_all ws P) (put_all ws Q)
 
--- So it is where both have the same contents on cells among which the footprint is.
+-- Writes in a row do at Q what they do at P where both have the same contents on cells among which the footprint is.
 abbrev pub WritesInARowAreLocal : Draft → Type 0
 WritesInARowAreLocal I = (P Q : Timetable) (ws : List Write) (passes : Cell → Bool)
     → IsPlanOf I P → IsPlanOf I Q → AreWritesOf I ws → AreSameOn I passes P Q
@@ -66,7 +66,7 @@ pub record IsLocal (I : Draft) (P Q : Timetable) (m : Move) : Type 0 where
   pub afterwards : AreSameOn I (touches I P m) (after I P m) (after I Q m)
   pub price : change_of_bill I Q (after I Q m) ≡ change_of_bill I P (after I P m)
 
--- So it is where both have the same contents on the move's footprint.
+-- A move does at Q what it does at P where both have the same contents on its footprint.
 abbrev pub MovesAreLocal : Draft → Type 0
 MovesAreLocal I = (P Q : Timetable) (m : Move) → IsPlanOf I P → IsPlanOf I Q → IsMoveOf I m
     → AreSameOn I (touches I P m) P Q → IsLocal I P Q m
@@ -87,7 +87,7 @@ pub record AreLocal (I : Draft) (P Q : Timetable) (ms : List Move) (passes : Cel
   pub afterwards : AreSameOn I passes (after_all I P ms) (after_all I Q ms)
   pub price : price_of_all I Q ms ≡ price_of_all I P ms
 
--- So it is where both have the same contents on cells among which the footprint is.
+-- Moves in a row do at Q what they do at P where both have the same contents on cells among which the footprint is.
 abbrev pub SeriesAreLocal : Draft → Type 0
 SeriesAreLocal I = (P Q : Timetable) (ms : List Move) (passes : Cell → Bool)
     → IsPlanOf I P → IsPlanOf I Q → AreMoves I ms → AreSameOn I passes P Q

@@ -7,3 +7,4 @@ mod replacing;
 mod rows;
 mod shelf;
 mod tables;
+mod why;

@@ -3,16 +3,16 @@ use Rattle.std.proofs.Common.{◌≡◌, ◌≤◌, ℕ, sym, subst, inl, inr, L
 use Rattle.std.specs.Prelude.{◌⊎◌}
 use Rattle.ih_shelf.specs.Outside.{IfTold, Names}
 use Rattle.ih_inputs.specs.Reading.{InputFiles}
-use Rattle.ih_answers.specs.declared.answer.Answer.{Answer}
-use Rattle.ih_answers.specs.declared.status.Status.{Status}
-use Rattle.ih_answers.specs.declared.status.Status.TheVariants.{OutOfMemory}
-use Rattle.ih_answers.specs.Answers.{Answers, HasFileCause, IsConcluded}
-use Rattle.ih_answers.specs.Ends.{Ends, Unchanged}
-use Rattle.ih_answers.specs.Inputs.{EndsUnread}
-use Rattle.ih_answers.specs.Texts.{memory_text}
-use Rattle.ih_answers.proofs.Later.{ends-later, file-cause-from}
-use Rattle.ih_answers.proofs.Saying.{answers-weaker, beside, ended, memory-ended}
-use Rattle.ih_answers.proofs.Stopping.{unread-answerable, unread-memory}
+use Rattle.ih_endings.specs.declared.answer.Answer.{Answer}
+use Rattle.ih_endings.specs.declared.status.Status.{Status}
+use Rattle.ih_endings.specs.declared.status.Status.TheVariants.{OutOfMemory}
+use Rattle.ih_endings.specs.Answers.{Answers, HasFileCause, IsConcluded}
+use Rattle.ih_endings.specs.Ends.{Ends, Unchanged}
+use Rattle.ih_endings.specs.Inputs.{EndsUnread}
+use Rattle.ih_endings.specs.Texts.{memory_text}
+use Rattle.ih_endings.proofs.Later.{ends-later, file-cause-from}
+use Rattle.ih_endings.proofs.Saying.{answers-weaker, beside, ended, memory-ended}
+use Rattle.ih_endings.proofs.Stopping.{unread-answerable, unread-memory}
 use Rattle.ih_frame.specs.Outcomes.{OutcomeState}
 use Rattle.ih_frame.specs.Steps.{BegunEnds, StepsEnds}
 

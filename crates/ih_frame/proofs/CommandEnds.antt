@@ -3,15 +3,15 @@ use Rattle.std.proofs.Common.{◌≡◌, ℕ, refl, ap, subst, sym, inl, inr, Li
 use Rattle.std.specs.Prelude.{◌≢◌, IfOk}
 use Rattle.ih_shelf.specs.Outside.{Names}
 use Rattle.ih_inputs.specs.Reading.{Given, HasGiven, InputFiles}
-use Rattle.ih_answers.specs.declared.answer.Answer.{Answer}
-use Rattle.ih_answers.specs.declared.status.Status.{Status}
-use Rattle.ih_answers.specs.declared.status.Status.TheVariants.{OutOfMemory}
-use Rattle.ih_answers.specs.Answers.{Answers, unsaid}
-use Rattle.ih_answers.specs.Inputs.{EndsUnread}
-use Rattle.ih_answers.specs.Texts.{memory_text}
-use Rattle.ih_answers.proofs.Files.{told-same}
-use Rattle.ih_answers.proofs.Saying.{IsAnswerable, answers-weaker}
-use Rattle.ih_answers.proofs.Stopping.{unread-answerable, unread-memory}
+use Rattle.ih_endings.specs.declared.answer.Answer.{Answer}
+use Rattle.ih_endings.specs.declared.status.Status.{Status}
+use Rattle.ih_endings.specs.declared.status.Status.TheVariants.{OutOfMemory}
+use Rattle.ih_endings.specs.Answers.{Answers, unsaid}
+use Rattle.ih_endings.specs.Inputs.{EndsUnread}
+use Rattle.ih_endings.specs.Texts.{memory_text}
+use Rattle.ih_endings.proofs.Files.{told-same}
+use Rattle.ih_endings.proofs.Saying.{IsAnswerable, answers-weaker}
+use Rattle.ih_endings.proofs.Stopping.{unread-answerable, unread-memory}
 use Rattle.ih_frame.specs.Ends.{CommandEnds, IsPerformed, MadeEnds}
 use Rattle.ih_frame.specs.Outcomes.{IsLeft, OutcomeState, outcome_of}
 use Rattle.ih_frame.specs.declared.outcome.Outcome.{Outcome}

@@ -9,11 +9,11 @@ use Rattle.ih_inputs.specs.declared.error.InputError.{InputError}
 use Rattle.ih_inputs.specs.declared.error.InputError.TheVariants.{ReadFault as Unreadable, TooLong as Long, InstanceRefused as NoInstance, NextRefused as NoNext, OlderRefused as NoOlder, SolutionRefused as NoSolution, OutOfMemory as NoRoom}
 use Rattle.ih_inputs.specs.declared.error.InputRole.TheVariants.{Instance as InstanceInput, Journal as JournalInput, Next as NextInput, Older as OlderInput, Solution as SolutionInput}
 use Rattle.ih_inputs.specs.Reading.{Given, HasBytes, HasGiven, HasInstance, HasJournal, HasNext, HasOlder, HasPlan, HasSolution, InputFiles, IsNext, IsOlderNext, IsUnread}
-use Rattle.ih_answers.specs.declared.status.Status.{Status}
-use Rattle.ih_answers.specs.declared.status.Status.TheVariants.{Done, Infeasible, ReadFault, WriteFault, OutOfMemory}
-use Rattle.ih_answers.specs.Answers.{unsaid}
-use Rattle.ih_answers.specs.Ends.{Ends, HasCause}
-use Rattle.ih_answers.specs.Inputs.{EndsUnread, unread_status}
+use Rattle.ih_endings.specs.declared.status.Status.{Status}
+use Rattle.ih_endings.specs.declared.status.Status.TheVariants.{Done, Infeasible, ReadFault, WriteFault, OutOfMemory}
+use Rattle.ih_endings.specs.Answers.{unsaid}
+use Rattle.ih_endings.specs.Ends.{Ends, HasCause}
+use Rattle.ih_endings.specs.Inputs.{EndsUnread, unread_status}
 use Rattle.ih_frame.specs.Ends.{AreAnswers, CommandEnds, HasNoFault}
 use Rattle.ih_frame.specs.Outcomes.{IsLeft, IsStatusOf, IsStopped, OutcomeState, WritingState}
 use Rattle.ih_frame.specs.Steps.{EndsFrom, StepsEnds}

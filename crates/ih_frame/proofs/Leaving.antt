@@ -3,13 +3,13 @@ use Rattle.std.proofs.Common.{◌≡◌, ◌∙◌, ℕ, refl, ap, inl, inr, Lis
 use Rattle.std.specs.Prelude.{◌≢◌}
 use Rattle.ih_shelf.specs.declared.outside.WriteError.{WriteError}
 use Rattle.ih_shelf.specs.Outside.{IfTold, IsWritten, MayBeWritten, Names}
-use Rattle.ih_answers.specs.declared.answer.Answer.{Answer}
-use Rattle.ih_answers.specs.declared.status.Status.{Status}
-use Rattle.ih_answers.specs.declared.status.Status.TheVariants.{Done, ReadFault, WriteFault, OutOfMemory, Infeasible}
-use Rattle.ih_answers.specs.Answers.{Answers, HasFileCause, IsUnwritten, unsaid}
-use Rattle.ih_answers.specs.Texts.{memory_text, unwritten_text}
-use Rattle.ih_answers.proofs.Files.{told-then, told-weaker}
-use Rattle.ih_answers.proofs.Saying.{IsAnswerable, answers-weaker, unsaid-by, unwritten-answer}
+use Rattle.ih_endings.specs.declared.answer.Answer.{Answer}
+use Rattle.ih_endings.specs.declared.status.Status.{Status}
+use Rattle.ih_endings.specs.declared.status.Status.TheVariants.{Done, ReadFault, WriteFault, OutOfMemory, Infeasible}
+use Rattle.ih_endings.specs.Answers.{Answers, HasFileCause, IsUnwritten, unsaid}
+use Rattle.ih_endings.specs.Texts.{memory_text, unwritten_text}
+use Rattle.ih_endings.proofs.Files.{told-then, told-weaker}
+use Rattle.ih_endings.proofs.Saying.{IsAnswerable, answers-weaker, unsaid-by, unwritten-answer}
 use Rattle.ih_frame.specs.Outcomes.{AreBegun, AreWritten, IsLeft, IsOwnStatus, IsStatusOf, IsStopped, OutcomeState, StopsAt, WritingState}
 
 unsaid-twice : (status : Status) → unsaid (unsaid status) ≡ unsaid status

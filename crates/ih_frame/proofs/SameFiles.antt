@@ -6,7 +6,7 @@ use Rattle.std.specs.Str.{bytes_eq}
 use Rattle.std.proofs.lemmas.Bool.{false≢true}
 use Rattle.std.proofs.lemmas.Slice.Eq.{bytes_eq-Decides}
 use Rattle.ih_shelf.specs.Outside.{IsWritten, Names}
-use Rattle.ih_answers.specs.Ends.{Unchanged}
+use Rattle.ih_endings.specs.Ends.{Unchanged}
 use Rattle.ih_frame.specs.Outcomes.{AreWritten, OutcomeState, WritingState}
 use Rattle.ih_frame.specs.Steps.{AreAllWritten}
 

@@ -2,13 +2,13 @@
 use Rattle.std.proofs.Common.{◌≡◌, ℕ, ◌+◌, ◌<◌, ◌≤◌, refl, sym, subst, arith, inl, inr, List, [], ◌∷◌, ◌++◌, length, append_assoc, append-nil, Option, Some, None, Result, Ok, Err}
 use Rattle.std.specs.Prelude.{◌≢◌, ◌⊎◌, IfOk}
 use Rattle.ih_shelf.specs.Outside.{IfTold, IsAppended, IsOnePutAtMost, Names}
-use Rattle.ih_answers.specs.declared.status.Status.{Status}
-use Rattle.ih_answers.specs.declared.status.Status.TheVariants.{Done, WriteFault, OutOfMemory}
-use Rattle.ih_answers.specs.Answers.{HasFileCause}
-use Rattle.ih_answers.specs.Ends.{Ends, Received}
-use Rattle.ih_answers.specs.Texts.{ReceivedPart, memory_text}
-use Rattle.ih_answers.proofs.Files.{told-same, told-then, told-weaker}
-use Rattle.ih_answers.proofs.Later.{appended-then, ends-later, file-cause-from, part-later, part-longer, received-later}
+use Rattle.ih_endings.specs.declared.status.Status.{Status}
+use Rattle.ih_endings.specs.declared.status.Status.TheVariants.{Done, WriteFault, OutOfMemory}
+use Rattle.ih_endings.specs.Answers.{HasFileCause}
+use Rattle.ih_endings.specs.Ends.{Ends, Received}
+use Rattle.ih_endings.specs.Texts.{ReceivedPart, memory_text}
+use Rattle.ih_endings.proofs.Files.{told-same, told-then, told-weaker}
+use Rattle.ih_endings.proofs.Later.{appended-then, ends-later, file-cause-from, part-later, part-longer, received-later}
 use Rattle.ih_frame.specs.Ends.{MadeEnds}
 use Rattle.ih_frame.specs.Outcomes.{AreWritten, OutcomeState, outcome_of}
 use Rattle.ih_frame.specs.Steps.{AreAllWritten, ArePutsAtMost, AreTaken, EndsFrom, StepsEnds, told}

@@ -2,11 +2,11 @@
 use Rattle.std.specs.Prelude.{◌≡◌, ℕ, ◌⊎◌, List, Option, Result, Ok, Err}
 use Rattle.ih_shelf.specs.Outside.{IfTold, Names}
 use Rattle.ih_inputs.specs.Reading.{Given, HasGiven, InputFiles}
-use Rattle.ih_answers.specs.declared.status.Status.{Status}
-use Rattle.ih_answers.specs.declared.status.Status.TheVariants.{OutOfMemory, ReadFault, WriteFault}
-use Rattle.ih_answers.specs.Ends.{Unchanged}
-use Rattle.ih_answers.specs.Inputs.{EndsUnread}
-use Rattle.ih_answers.specs.Texts.{memory_text}
+use Rattle.ih_endings.specs.declared.status.Status.{Status}
+use Rattle.ih_endings.specs.declared.status.Status.TheVariants.{OutOfMemory, ReadFault, WriteFault}
+use Rattle.ih_endings.specs.Ends.{Unchanged}
+use Rattle.ih_endings.specs.Inputs.{EndsUnread}
+use Rattle.ih_endings.specs.Texts.{memory_text}
 use Rattle.ih_frame.specs.Outcomes.{IsLeft, OutcomeState, outcome_of}
 use Rattle.ih_frame.specs.declared.outcome.Outcome.{Outcome}
 

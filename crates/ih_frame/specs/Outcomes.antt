@@ -1,12 +1,12 @@
 -- What a command comes to, and what is left of that: which files are written, what is said and with which status.
 use Rattle.std.specs.Prelude.{◌≡◌, ◌≢◌, ℕ, ◌⊎◌, List, [], ◌∷◌, map, Option, Some}
 use Rattle.ih_shelf.specs.Outside.{IfTold, IsWritten, MayBeWritten, Names}
-use Rattle.ih_answers.specs.declared.status.Role.{Role}
-use Rattle.ih_answers.specs.declared.status.Status.{Status}
-use Rattle.ih_answers.specs.declared.status.Status.TheVariants.{Done, ReadFault, WriteFault, OutOfMemory}
-use Rattle.ih_answers.specs.Answers.{unsaid}
-use Rattle.ih_answers.specs.Ends.{Unchanged}
-use Rattle.ih_answers.specs.Texts.{memory_text, unwritten_text}
+use Rattle.ih_endings.specs.declared.status.Role.{Role}
+use Rattle.ih_endings.specs.declared.status.Status.{Status}
+use Rattle.ih_endings.specs.declared.status.Status.TheVariants.{Done, ReadFault, WriteFault, OutOfMemory}
+use Rattle.ih_endings.specs.Answers.{unsaid}
+use Rattle.ih_endings.specs.Ends.{Unchanged}
+use Rattle.ih_endings.specs.Texts.{memory_text, unwritten_text}
 use Rattle.ih_frame.specs.declared.outcome.Outcome.{Outcome}
 use Rattle.ih_frame.specs.declared.outcome.Writing.{Writing}
 

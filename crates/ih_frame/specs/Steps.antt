@@ -1,12 +1,12 @@
 -- How a call ends that goes on in steps: each comes to an outcome, as a command does.
 use Rattle.std.specs.Prelude.{◌≡◌, ◌≢◌, ℕ, ◌+◌, ◌≤◌, ◌⊎◌, List, [], ◌∷◌, ◌++◌, length, Option}
 use Rattle.ih_shelf.specs.Outside.{IfTold, Names}
-use Rattle.ih_answers.specs.declared.status.Status.{Status}
-use Rattle.ih_answers.specs.declared.status.Status.TheVariants.{Done, OutOfMemory}
+use Rattle.ih_endings.specs.declared.status.Status.{Status}
+use Rattle.ih_endings.specs.declared.status.Status.TheVariants.{Done, OutOfMemory}
 use Rattle.ih_inputs.specs.Reading.{InputFiles}
-use Rattle.ih_answers.specs.Ends.{Unchanged}
-use Rattle.ih_answers.specs.Inputs.{EndsUnread}
-use Rattle.ih_answers.specs.Texts.{memory_text}
+use Rattle.ih_endings.specs.Ends.{Unchanged}
+use Rattle.ih_endings.specs.Inputs.{EndsUnread}
+use Rattle.ih_endings.specs.Texts.{memory_text}
 use Rattle.ih_frame.specs.Outcomes.{AreWritten, IsLeft, OutcomeState}
 
 -- Steps that lead from x to y, by what each came to. The last one comes first in the list.

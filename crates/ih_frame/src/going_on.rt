@@ -2,13 +2,13 @@
 
 ghost use Rattle.std.specs.Prelude.{◌≤◌, ◌+◌};
 ghost use Rattle.ih_shelf.specs.Outside.{IfTold};
-ghost use Rattle.ih_answers.specs.Answers.{HasShelfCause};
-ghost use Rattle.ih_answers.specs.{Ends.Ends, Ends.HasCause, Ends.Received, Texts.ReceivedPart};
+ghost use Rattle.ih_endings.specs.Answers.{HasShelfCause};
+ghost use Rattle.ih_endings.specs.{Ends.Ends, Ends.HasCause, Ends.Received, Texts.ReceivedPart};
 ghost use Rattle.ih_frame.specs.Steps.{ArePutsAtMost, StepsEnds};
 
 use crate::performing::finish;
 use crate::steps::Steps;
-use ih_answers::Status;
+use ih_endings::Status;
 use ih_shelf::{Shelf, Sink};
 use std::alloc::Global;
 use std::rt::Files;

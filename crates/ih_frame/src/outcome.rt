@@ -1,10 +1,10 @@
 //! What a command comes to.
 
 ghost use Rattle.std.specs.Prelude.{◌≡◌, IfOk, []};
-ghost use Rattle.ih_answers.specs.declared.status.Status.TheVariants.{Done};
+ghost use Rattle.ih_endings.specs.declared.status.Status.TheVariants.{Done};
 ghost use Rattle.ih_frame.specs.Outcomes.{outcome_of, says, writes_one};
 
-use ih_answers::{Role, Status};
+use ih_endings::{Role, Status};
 use std::alloc::{AllocError, Global};
 
 /// A file that is to be written.

@@ -2,15 +2,15 @@
 
 ghost use Rattle.std.specs.Prelude.{◌≡◌, ◌≤◌, IfOk};
 ghost use Rattle.ih_shelf.specs.Outside.{IfTold, IsOnePutAtMost};
-ghost use Rattle.ih_answers.specs.Answers.{Answers, HasShelfCause};
-ghost use Rattle.ih_answers.specs.{Ends.Ends, Ends.HasCause, Ends.Received, Texts.ReceivedPart};
+ghost use Rattle.ih_endings.specs.Answers.{Answers, HasShelfCause};
+ghost use Rattle.ih_endings.specs.{Ends.Ends, Ends.HasCause, Ends.Received, Texts.ReceivedPart};
 ghost use Rattle.ih_frame.specs.{Ends.CommandEnds, Ends.MadeEnds, Outcomes.IsLeft, Outcomes.IsOwnStatus};
 ghost use Rattle.ih_frame.specs.Outcomes.{outcome_of};
 
 use crate::command::Command;
 use crate::outcome::Outcome;
 use crate::writing::write_all;
-use ih_answers::{Answer, Status, conclude, out_of_memory, read_or_answer};
+use ih_endings::{Answer, Status, conclude, out_of_memory, read_or_answer};
 use ih_shelf::{Shelf, Sink};
 use std::alloc::{AllocError, Global};
 use std::rt::Files;
@@ -105,7 +105,8 @@ pub fn perform<R: Files + Print + Threads + Wait + Sync, C: Command, S: Shelf, O
     conclude(rt, out, &answer)
 }
 
-/// The same for a command that reads no file, and has come to this: a file or a text that was made, or no memory.
+/// Ends a command that reads no file: writes the file that was made, puts the text in one put, and gives the status.
+/// Where memory ran out as that was made, it says so.
 pub fn finish<R: Files + Print, S: Shelf, O: Sink>(
     rt: &R,
     alloc: Global,

@@ -2,7 +2,7 @@
 
 ghost use Rattle.std.specs.Prelude.{◌≡◌, ◌↔◌, ◌<◌, ℕ, IfOk, IsTrue};
 ghost use Rattle.std.specs.Thread.{IsSync};
-ghost use Rattle.ih_answers.specs.declared.status.Status.TheVariants.{Done};
+ghost use Rattle.ih_endings.specs.declared.status.Status.TheVariants.{Done};
 ghost use Rattle.ih_frame.specs.Outcomes.{IsOwnStatus, OutcomeState, outcome_of};
 
 use crate::outcome::Outcome;

@@ -2,11 +2,11 @@
 
 ghost use Rattle.std.specs.Prelude.{◌≡◌, ◌≤◌, IfErr, OnOk, map};
 ghost use Rattle.ih_shelf.specs.Outside.{IfTold};
-ghost use Rattle.ih_answers.specs.Answers.{Answers, HasShelfCause};
+ghost use Rattle.ih_endings.specs.Answers.{Answers, HasShelfCause};
 ghost use Rattle.ih_frame.specs.Outcomes.{AreWritten, IsStopped, writing_of};
 
 use crate::outcome::Writing;
-use ih_answers::{Answer, unwritten};
+use ih_endings::{Answer, unwritten};
 use ih_shelf::Shelf;
 use std::alloc::Global;
 use std::rt::Files;

@@ -31,7 +31,7 @@ person_members letter n a skills workloads =
 abbrev pub named_data : List ℕ → ℕ → Data
 named_data letter n = object (member (codes "id") (id_data letter n) no_members)
 
--- the same with minutes under a key, as many on each day
+-- a thing with an id, and with minutes under a key, as many on each day
 abbrev pub minutes_data : List ℕ → List ℕ → ℕ → ℕ → ℕ → Data
 minutes_data letter key minutes days n = with_member key (each_day days minutes) (named_data letter n)
 

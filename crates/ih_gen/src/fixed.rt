@@ -8,7 +8,7 @@ use crate::names::{Made, age_name, id_value, shift_name};
 use serde_json::{Value, json};
 use std::alloc::Global;
 
-// The same minutes on each day.
+// A list with so many minutes for each day.
 #[tactic(auto, using(crate::proofs::RowLemmas::listed_steps), unfolding(crate::specs::Generated::each_day))]
 fn each_day(alloc: Global, days: u32, minutes: u32) -> Made
     ensures { IsMade (each_day days minutes) result }

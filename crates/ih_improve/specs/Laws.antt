@@ -38,7 +38,7 @@ LeadOn leaves past v (s ∷ ss) (P ∷ Ps) =
     Leads (λ l. leaves (l ∷ past)) v s P × LeadOn leaves (leg_of v s ∷ past) (led_to v s P) ss Ps
 LeadOn leaves past v ss Ps = ⊥
 
--- the same of such workers
+-- where workers that go on are determined, so are rounds: the same spans from one start lead to the same timetables
 abbrev pub RoundsOnAreDetermined : (List LegState → ℕ → Timetable → Type 0) → Type 0
 RoundsOnAreDetermined leaves =
     IsDeterminedByRounds leaves → (v : ImproverState) (ss : List Span) (Ps Qs : List Timetable)

@@ -161,8 +161,8 @@ impl<'a> Improver<'a> {
           kept = start.now;
         }) }
     {
-        let bill = bill(inst, start);
-        let workers = new_workers(alloc, inst, start, &bill, settings)?;
+        let costs = bill(inst, start);
+        let workers = new_workers(alloc, inst, start, &costs, settings)?;
         Ok(Improver {
             inst,
             start: start.try_clone(alloc)?,
@@ -178,7 +178,7 @@ impl<'a> Improver<'a> {
                 is_cold: false,
             },
             kept: start.try_clone(alloc)?,
-            standing: Standing::of_bill(bill),
+            standing: Standing::of_bill(costs),
             workers,
         })
     }

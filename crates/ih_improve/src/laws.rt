@@ -20,7 +20,8 @@ pub trait GoesOn {
     ghost leaves: { List LegState → ℕ → Timetable → Type 0 };
 }
 
-/// The same where what each worker leaves follows from what all its rounds so far began with, and from its number.
+/// Where what each worker leaves follows from what all its rounds so far began with and from its number, rounds with
+/// the same spans from the same beginning lead to the same timetables.
 pub fn workers_that_go_on_make_determined_rounds<W: GoesOn>()
     ensures { RoundsOnAreDetermined W.leaves }
 {}

@@ -48,7 +48,7 @@ impl<'a> Model for Walker<'a> {
     ghost invariant = { λ w. AreBills w.inst.now.draft w.ledgers w.left_best w.stands_on_best w.bill w.best_bill };
 }
 
-// Keeps the timetable where the ledgers stand, if that is the best and won't be bettered as they leave it.
+// Copies the best timetable as the ledgers leave it, but not one that the move betters: no one would read that copy.
 fn keep_left(
     inst: &Instance,
     left_best: &mut Plan,

@@ -86,7 +86,7 @@ impl<'a> ImproveWorker<'a> {
     }
 
     // Whether the worker leaves its own timetable for the best so far: in the last tenth of the schedule, and always
-    // where changes count. Before that it is hot, and each time that it is taken back to the best it loses what it won.
+    // where changes count. Before that workers stay on their own ways, so that several are tried.
     fn takes_over(&self, leg: &Leg<'_>) -> bool {
         let span = leg.span();
         leg.settings().keep > 0 || span.whole - span.whole / 10 <= span.from

@@ -42,7 +42,7 @@ abbrev pub two_files : List ℕ → Option (List ℕ) → InputFiles
 two_files instance solution =
     record { instance = instance; solution = solution; older = None; journal = None; next = None; are_said = false }
 
--- the same, and what is said of a refused one begins with its name
+-- an instance, and a timetable where a file is named for it; what is said of a refused one begins with its name
 abbrev pub said_files : List ℕ → Option (List ℕ) → InputFiles
 said_files instance solution = record (two_files instance solution) { are_said = true }
 

@@ -88,7 +88,8 @@ pub fn numbers(bytes: &[u8], separator: u8, out: &mut [u32]) -> Option<usize>
     None
 }
 
-/// The same of a price's numbers, with commas.
+/// Reads a price's numbers, at most 10^11 in magnitude, with commas, into the front of `out`, and says how many there
+/// are. There is none where the bytes are no such text, or of more numbers than `out` has room for.
 pub fn signed_numbers(bytes: &[u8], out: &mut [i64]) -> Option<usize>
     ensures some { IfSome result
         (λ n. (n ≤ length out.old) × (parted 44 bytes.now ≡ map signed_decimal (take n out.new))

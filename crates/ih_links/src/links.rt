@@ -81,7 +81,8 @@ impl Links {
 }
 
 impl Links<u16> {
-    /// The same in half the memory. Memory for more than 2^16 heads and nodes together is wanting.
+    /// Lists that are all empty, of 16-bit numbers. An error where heads and nodes together are more than 2^16, or
+    /// memory runs out.
     pub fn compact(alloc: Global, heads: u32, nodes: u32) -> Result<CompactLinks, AllocError>
         ensures lists { IfOk result (λ l. l.lists ≡ replicate heads []) }
         ensures nodes { IfOk result (λ l. l.nodes ≡ nodes) }

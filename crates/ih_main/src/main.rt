@@ -1,7 +1,7 @@
 //! The program: the words of its command line, real files and standard output.
 #![tactic(auto)]
 
-use ih_inputs::run_with_words;
+use ih_arguments::words::run_with_words;
 use ih_shelf::{FileShelf, OpenGate, OutSink};
 use ih_top::{Status, run};
 use std::process::ExitCode;

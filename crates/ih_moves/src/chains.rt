@@ -100,7 +100,7 @@ impl Chain {
         self.push(mv);
     }
 
-    /// The same, where one was found.
+    /// Puts a move of the instance, where one was found, behind the others, where there aren't eight.
     pub fn add_found(&mut self, _inst: &Instance, found: Option<Move>)
         requires moves { AreMoves _inst.now.draft self.old }
         requires one { IfSome found (IsMoveOf _inst.now.draft) }

@@ -16,7 +16,7 @@ abbrev pub nursed_in : Timetable → Option ShiftSpan → ℕ → ℕ
 nursed_in P None n = 0
 nursed_in P (Some s) n = count_below s.len (λ j. is_number (care_of P s.room.0 (s.from + j)) n)
 
--- the same of person x's stay
+-- how many of the counted shifts of person x's stay nurse n has
 abbrev pub count_of : Draft → Timetable → ℕ → ℕ → ℕ
 count_of I P x n = nursed_in P (shift_span_in I (admission_of I P x) (person_of I x).length_of_stay) n
 

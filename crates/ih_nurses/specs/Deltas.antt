@@ -32,7 +32,7 @@ module _ (I : Draft) (Q : Timetable) where
   abbrev pub overload_in : NurseNo → Shift → ℕ
   overload_in n k = cost_count excess_workload (part_at I Q (NurseShift n k))
 
-  -- the same of the nurse of room r, where it has one
+  -- the workload above the maximum of the nurse of room r in shift k, where it has one
   abbrev pub excess_in : RoomNo → Shift → ℕ
   excess_in r k = excess_of I Q k.0 (care_of Q r.0 k.0)
 

@@ -52,7 +52,7 @@ stay_load I P p at n k =
     else 0)
     else 0
 
--- the same of a stay where there is one
+-- what a stay of patient p, where there is one, gives to nurse n in shift k; else 0
 abbrev pub load_of_stay : Draft → Timetable → ℕ → Option Placement → ℕ → ℕ → ℕ
 load_of_stay I P p None n k = 0
 load_of_stay I P p (Some at) n k = stay_load I P p at n k

@@ -19,7 +19,7 @@ pub fn entry(list: &[u32], at: Placement, shift: Shift) -> u32
     list[(shift.0 - 3 * at.day.0) as usize]
 }
 
-// The same, and 0 past the list's end.
+// What a list with an entry for each shift of a stay has for a shift: 0 past the list's end.
 #[inline(always)]
 fn entry_or_none(list: &[u32], at: Placement, shift: Shift) -> u32
     requires { 3 * at.day.0 ≤ shift.0 }

@@ -33,14 +33,14 @@ patients_data I O P = map (λ p. was_data p (option_data place_data (stay_of O p
 abbrev pub changed_shifts : Draft → Timetable → Timetable → ℕ → List ℕ
 changed_shifts I O P r = which_below (shift_count I) (has_another O P r)
 
--- these shifts with the nurse of the older timetable
+-- the shifts in which room r has another nurse, with the nurse of the older timetable
 abbrev pub shifts_data : Draft → Timetable → Timetable → ℕ → List Data
 shifts_data I O P r = map (λ k. was_data k (option_data number_data (care_of O r k))) (changed_shifts I O P r)
 
 unfoldable pub room_data : Draft → Timetable → Timetable → ℕ → Data
 room_data I O P r = list_data (shifts_data I O P r)
 
--- the same of every room
+-- for every room, the shifts in which it has another nurse, with the nurse of the older timetable
 abbrev pub rooms_data : Draft → Timetable → Timetable → List Data
 rooms_data I O P = listed (room_count I) (room_data I O P)
 

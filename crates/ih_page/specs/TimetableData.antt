@@ -27,7 +27,7 @@ nurses_data I P r = listed (shift_count I) (λ k. option_data number_data (care_
 unfoldable pub room_data : Draft → Timetable → ℕ → Data
 room_data I P r = list_data (nurses_data I P r)
 
--- the same of every room
+-- every room's nurse in each shift: null where there is none
 abbrev pub care_data : Draft → Timetable → List Data
 care_data I P = listed (room_count I) (room_data I P)
 

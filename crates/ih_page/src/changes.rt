@@ -73,7 +73,7 @@ fn room_value(alloc: Global, both: &Compared<'_>, room: RoomNo) -> Result<Value,
     Ok(Value::Array(shift_values(alloc, both, room)?))
 }
 
-// The same of every room.
+// For every room, the shifts in which it has another nurse, with the older one.
 #[tactic(auto, using(ih_solution::proofs::ListedValues::listed_steps))]
 fn room_values(alloc: Global, both: &Compared<'_>) -> Result<Vec<Value>, AllocError>
     ensures { IfOk result (λ v. map view v.items

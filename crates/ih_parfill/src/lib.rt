@@ -10,4 +10,4 @@ mod starts;
 mod stays;
 
 pub use filling::par_fill;
-pub use starts::{Begun, begin};
+pub use starts::{SearchStart, search_start};

@@ -15,7 +15,7 @@ use std::thread::Threads;
 
 /// What a search works on.
 #[derive(Drop)]
-pub struct Begun {
+pub struct SearchStart {
     pub inst: Box<Instance>,
     /// The timetable that the search starts from.
     pub start: Plan,
@@ -23,14 +23,14 @@ pub struct Begun {
 
 /// What a search of these inputs works on: it starts from their timetable, or from its greedy fill. `hard` is the
 /// weight of a broken hard rule in a score, `workers` how many fill side by side.
-pub fn begin<R: Threads + Wait + Sync>(
+pub fn search_start<R: Threads + Wait + Sync>(
     rt: &R,
     alloc: Global,
     inputs: Inputs,
     is_filled: bool,
     hard: u32,
     workers: u32,
-) -> Result<Begun, AllocError>
+) -> Result<SearchStart, AllocError>
     requires plan { IsPlanOf inputs.inst.value.draft inputs.plan }
     requires hard { hard ≤ 1000000 }
     requires some { 0 < workers }
@@ -41,8 +41,8 @@ pub fn begin<R: Threads + Wait + Sync>(
 {
     let Inputs { inst, plan, .. } = inputs;
     if !is_filled {
-        return Ok(Begun { inst, start: plan });
+        return Ok(SearchStart { inst, start: plan });
     }
     let start = par_fill(rt, alloc, &*inst, hard, &plan, workers, &OpenGate)?;
-    Ok(Begun { inst, start })
+    Ok(SearchStart { inst, start })
 }

@@ -85,7 +85,7 @@ cell_in z n =
     in_row (λ m k. NurseShift (record { 0 = m }) (record { 0 = k })) (n - nurse_shifts_from z) (3 * z.days)
     else Care (record { 0 = n - cares_from z })
 
--- the same of an instance
+-- how many cells an instance has
 abbrev pub cell_count : Draft → ℕ
 cell_count I = count_in (sizes_of I)
 

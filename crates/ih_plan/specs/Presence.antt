@@ -58,7 +58,7 @@ present I P r d = which_below (person_count I) (is_present I P r d)
 abbrev pub end_from : Draft → ℕ → ℕ → ℕ
 end_from I a n = min (a + n) I.days
 
--- the same of a placement of patient p
+-- the day after the last counted one of patient p's stay with a placement: days past the horizon aren't counted
 abbrev pub end_of : Draft → ℕ → Placement → ℕ
 end_of I p at = end_from I at.day.0 (person_of I p).length_of_stay
 

@@ -192,7 +192,7 @@ pub fn end_from(inst: &Instance, day: u32, len: u32) -> u32
     (day as u64 + len as u64).min(inst.days() as u64) as u32
 }
 
-/// The same of a patient's placement.
+/// The day after the last counted one of a patient's stay with this placement: days past the horizon aren't counted.
 #[tactic(auto, unfolding(crate::specs::Persons::person_of))]
 #[inline(always)]
 pub fn end_of(inst: &Instance, patient: PatientNo, at: Placement) -> u32

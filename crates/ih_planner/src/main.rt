@@ -1,9 +1,9 @@
 //! The program for planners: the words of its command line, real files and standard output.
 #![tactic(auto)]
 
-use ih_answers::Status;
-use ih_inputs::run_with_words;
-use ih_planning::{ClockWatch, run_planner};
+use ih_arguments::words::run_with_words;
+use ih_commands::{ClockWatch, run_planner};
+use ih_endings::Status;
 use ih_shelf::{FileShelf, OutSink};
 use std::process::ExitCode;
 

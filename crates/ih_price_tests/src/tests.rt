@@ -1,5 +1,6 @@
 //! The tests, by what they are of.
 
+mod admissions;
 mod bills;
 mod costs;
 mod fill;
@@ -7,5 +8,3 @@ mod footprint;
 mod ledgers;
 mod links;
 mod nurses;
-mod roomdays;
-mod theatres;

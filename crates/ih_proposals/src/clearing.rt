@@ -90,7 +90,7 @@ fn clear_on(
     false
 }
 
-/// The same for all days of the patient's placement.
+/// Lets all go who have to leave on any day of the patient's placement; false where somebody can't.
 pub fn clear(
     here: &Situation<'_>,
     words: &mut RandomWords,

@@ -73,25 +73,33 @@ fn make_way_for_all(here: &Situation<'_>, words: &mut RandomWords, attempt: &mut
     true
 }
 
+// An admitted patient and another room that it may have, both by random words.
+fn draw_room_change(here: &Situation<'_>, words: &mut RandomWords) -> Option<(PatientNo, RoomNo)>
+    ensures { IfSome result (λ c.
+        (c.0.0 < patient_count here.now.inst.now.draft) × (c.1.0 < room_count here.now.inst.now.draft)) }
+{
+    let inst = here.inst;
+    let p = draw_patient(inst, words)?;
+    let at = here.stay(p)?;
+    let other = RoomNo(words.below(inst.rooms()));
+    if other == at.room || is_incompatible(inst.patient(p), other) {
+        None
+    } else {
+        Some((p, other))
+    }
+}
+
 /// Up to eight moves: a patient goes to another room, both by random words, and two rooms exchange all whom this
 /// disturbs and who are disturbed by that in turn. None where that comes to no end.
 pub fn kempe(here: &Situation<'_>, words: &mut RandomWords, attempt: &mut Chain)
     requires { AreMoves here.now.inst.now.draft attempt.old }
     ensures { AreMoves here.now.inst.now.draft attempt.new }
 {
-    let inst = here.inst;
-    let Some(p) = draw_patient(inst, words) else {
+    let Some((p, other)) = draw_room_change(here, words) else {
         return;
     };
-    let Some(at) = here.stay(p) else {
-        return;
-    };
-    let other = RoomNo(words.below(inst.rooms()));
-    if other == at.room || is_incompatible(inst.patient(p), other) {
-        return;
-    }
-    attempt.add(inst, Move::SetRoom(p, other));
+    attempt.add(here.inst, Move::SetRoom(p, other));
     if !make_way_for_all(here, words, attempt) {
-        attempt.begin(inst);
+        attempt.begin(here.inst);
     }
 }

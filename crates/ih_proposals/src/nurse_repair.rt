@@ -84,7 +84,8 @@ fn repair_shift(
     Some(Move::Nurse(stay.at.room, shift, nurse))
 }
 
-// The same for each shift of the stay.
+// Adds a cheaper nurse, where there is one, in each shift of the stay whose nurse is overloaded, less skilled than
+// the patient needs, or there for the patient alone. It ends where the attempt is full.
 fn repair_stay(here: &Situation<'_>, words: &mut RandomWords, stay: NewStay, attempt: &mut Chain)
     requires stay { IsNewStay here.now.inst.now.draft stay }
     requires moves { AreMoves here.now.inst.now.draft attempt.old }

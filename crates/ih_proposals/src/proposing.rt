@@ -58,11 +58,7 @@ pub fn propose(
     ensures moves { AreMoves inst.now.draft attempt.new }
     ensures few { length attempt.new ≤ 8 }
 {
-    let here = Situation {
-        inst,
-        ledgers,
-        hard,
-    };
+    let here = Situation::new(inst, hard, ledgers);
     attempt.begin(inst);
     let kind = kind_of(words.below(256));
     propose_kind(&here, kind, words, attempt);
@@ -85,11 +81,7 @@ pub fn repair(
     ensures moves { AreMoves inst.now.draft attempt.new }
     ensures few { length attempt.new ≤ 8 }
 {
-    let here = Situation {
-        inst,
-        ledgers,
-        hard,
-    };
+    let here = Situation::new(inst, hard, ledgers);
     let before = attempt.len();
     repair_nurses(&here, words, attempt);
     before < attempt.len()

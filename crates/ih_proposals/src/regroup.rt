@@ -58,7 +58,7 @@ fn withdraw_on(here: &Situation<'_>, room: RoomNo, day: Day, attempt: &mut Chain
     }
 }
 
-// The same for a few days in a row.
+// Withdraws patients of a room who are admitted on one of `DAYS` days from a day on, up to `MOST_WITHDRAWN`.
 fn withdraw_from(here: &Situation<'_>, room: RoomNo, from: Day, attempt: &mut Chain)
     requires room { room.0 < room_count here.now.inst.now.draft }
     requires moves { AreMoves here.now.inst.now.draft attempt.old }
@@ -116,7 +116,7 @@ fn settle(
     }
 }
 
-// The same for one who is out and may join, where there is one.
+// Gives a patient who is out and may join, where there is one, the cheapest of a few places.
 fn join(here: &Situation<'_>, words: &mut RandomWords, from: Day, attempt: &mut Chain)
     requires { AreMoves here.now.inst.now.draft attempt.old }
     ensures { AreMoves here.now.inst.now.draft attempt.new }
@@ -126,7 +126,8 @@ fn join(here: &Situation<'_>, words: &mut RandomWords, from: Day, attempt: &mut 
     }
 }
 
-// The same for the patient whom the attempt withdraws at an index, where it does.
+// Gives the patient whom the attempt withdraws at an index, where it does, the cheapest of a few places. False where
+// that is a mandatory patient who has none.
 fn resettle_at(
     here: &Situation<'_>,
     words: &mut RandomWords,
@@ -145,7 +146,8 @@ fn resettle_at(
     }
 }
 
-// The same for all of so many who are withdrawn, cyclically from a random one on.
+// Gives each of so many who are withdrawn the cheapest of a few places, cyclically from a random one on. False, and
+// no further, where a mandatory patient has none.
 fn resettle(here: &Situation<'_>, words: &mut RandomWords, count: u32, attempt: &mut Chain) -> bool
     requires count { 0 < count }
     requires moves { AreMoves here.now.inst.now.draft attempt.old }

@@ -26,6 +26,19 @@ impl<'a> Situation<'a> {
     ghost use Rattle.ih_roomdays.specs.Ledger.{IsLedgerOf as AreRoomDaysOf};
     ghost use Rattle.ih_theatres.specs.Ledger.{IsLedgerOf as AreTheatresOf};
 
+    /// The situation at the timetable of these ledgers.
+    pub fn new(inst: &'a Instance, hard: u32, ledgers: &'a Ledgers<'a>) -> Situation<'a>
+        requires instance { ledgers.now.instance ≡ inst.now.draft }
+        requires hard { hard ≤ 1000000 }
+        ensures { result.inst.now ≡ inst.now }
+    {
+        Situation {
+            inst,
+            ledgers,
+            hard,
+        }
+    }
+
     /// The stay of a patient, where the patient is admitted.
     #[inline(always)]
     pub fn stay(&self, patient: PatientNo) -> Option<Placement>

@@ -158,9 +158,9 @@ pub fn rounds<R: Threads + Wait + Sync, S: Searcher>(
     rounds_of::<R, OfSearcher, S>(rt, alloc, inst, start, options, rounds, searcher, journal)
 }
 
-/// The same by a closure, which may be called with each timetable and lawful options without retries, and answers a
-/// full history over them. What is done in threads may rest on no bound of an impl, so whoever searches in threads with
-/// a gate of any type hands in a closure that captures the gate.
+/// Searches so many times by a closure, each from the best timetable before, or the last where none is feasible, with
+/// a seed 64 further, and appends the journals; where memory runs out, drop them. Threads may rest on no bound of an
+/// impl, so whoever searches with a gate of any type hands in a closure that captures it.
 pub fn rounds_by<
     R: Threads + Wait + Sync,
     F: Fn(Global, &Instance, &Plan, &Options) -> Result<Vec<Entry>, AllocError> + Drop,

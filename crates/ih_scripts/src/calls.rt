@@ -3,7 +3,7 @@
 use crate::changing::lay;
 use crate::gates::TestGate;
 use crate::texts::are_lines;
-use ih_answers::Status;
+use ih_endings::Status;
 use ih_shelf::{MemShelf, MemSink};
 use std::alloc::{AllocError, Global};
 
@@ -41,7 +41,7 @@ impl<'a, F: Fn(&[String], &mut MemShelf, &mut MemSink, &TestGate) -> Status> Pro
         }
     }
 
-    // The same past a gate that does nothing.
+    // Whether a call by the words of a line ends with the status of this code, past a gate that does nothing.
     fn exits(&self, line: &str, shelf: &mut MemShelf, out: &mut MemSink, code: u64) -> bool
         requires { F.IsAlwaysCallable self.now.call.now }
     {
@@ -56,7 +56,7 @@ impl<'a, F: Fn(&[String], &mut MemShelf, &mut MemSink, &TestGate) -> Status> Pro
         self.exits(line, shelf, &mut out, code) && are_lines(self.alloc, out.bytes(), text)
     }
 
-    /// The same where the put of this number fails.
+    /// Whether a call whose put of this number fails ends with the status of this code and has said these lines.
     pub(crate) fn is_cut_off(
         &self,
         line: &str,

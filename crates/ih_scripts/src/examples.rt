@@ -36,7 +36,7 @@ const JOURNAL: &str = "ihjournal 1 seed=0 workers=1 moves=2 heat=0 hard=1000
 1 0 1 1 nurse:0,2,0 0,0,0,0,0,0,0,0,0,0,0,0,0,0,0,0,0 accepted
 ";
 
-// The same without its last line.
+// The journal of the search on the ward, without its last line.
 const ONE_ENTRY: &str = "ihjournal 1 seed=0 workers=1 moves=2 heat=0 hard=1000
 0 0 0 0 nurserun:0,0,0,5 0,0,0,0,0,0,0,0,-3,0,1,1,0,0,0,0,0 accepted
 ";

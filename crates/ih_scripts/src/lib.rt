@@ -17,9 +17,9 @@
 //! | `spaces NAME N` | the name gets so many spaces |
 //! | `fail-read N`, `fail-write N KEPT` | the read, or the write, of this number is to fail, and to leave so many bytes |
 //! | `CODE CALL` | the call ends with this status and says these lines, in one put |
-//! | `says CODE CALL` | the same in any number of puts |
-//! | `cut PUT CODE CALL` | the same where the put of this number fails |
-//! | `changes NAME FILE CODE CALL` | the same for each row `FROM \| TO \| LINE`, and the call then ends so and says LINE |
+//! | `says CODE CALL` | the call ends with this status and says these lines, in any number of puts |
+//! | `cut PUT CODE CALL` | the put of this number fails, and the call ends with this status and says these lines |
+//! | `changes NAME FILE CODE CALL` | each row `FROM \| TO \| LINE`: NAME gets FILE so changed, CALL says LINE |
 //! | `each CODE LINE` | each call of the text ends with this status and says this line |
 //! | `alike` | two calls are done and say the same |
 //! | `replays` | the replay of the first line and each search below are done, say the same, and leave one solution |

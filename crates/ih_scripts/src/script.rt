@@ -8,7 +8,7 @@ use crate::held::{are_same, has_count, has_sum, have_same_lines, holds, holds_li
 use crate::meeting::{MeetingGate, began_together};
 use crate::pairs::has_pairs;
 use crate::texts::{meant, number};
-use ih_answers::Status;
+use ih_endings::Status;
 use ih_fixtures::cut;
 use ih_shelf::{HoldGate, MemShelf, MemSink};
 use std::alloc::Global;

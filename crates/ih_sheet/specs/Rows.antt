@@ -91,7 +91,7 @@ abbrev pub rows_of_nurse : Draft → List (Option Date) → Timetable → ℕ �
 rows_of_nurse I dates P n =
     rows_below (shift_count I) (λ k. if is_shown I P n k then nurse_row I dates P n k ∷ [] else [])
 
--- the same of all nurses, in number order
+-- the rows of all nurses, in number order, each nurse's by shift
 abbrev pub nurse_rows : Draft → List (Option Date) → Timetable → List Row
 nurse_rows I dates P = rows_below (nurse_count I) (rows_of_nurse I dates P)
 
@@ -117,7 +117,7 @@ room_row I dates P r d =
 abbrev pub rows_of_room : Draft → List (Option Date) → Timetable → ℕ → List Row
 rows_of_room I dates P r = rows_below I.days (λ d. room_row I dates P r d ∷ [])
 
--- the same of all rooms, in number order
+-- the rows of all rooms, in number order, one for each day
 abbrev pub room_rows : Draft → List (Option Date) → Timetable → List Row
 room_rows I dates P = rows_below (room_count I) (rows_of_room I dates P)
 
@@ -143,6 +143,6 @@ rows_of_day I dates P t d = map (surgery_row I dates t d) (operated I P t d)
 abbrev pub rows_of_theatre : Draft → List (Option Date) → Timetable → ℕ → List Row
 rows_of_theatre I dates P t = rows_below I.days (rows_of_day I dates P t)
 
--- the same of all theatres, in number order
+-- the surgeries in all theatres, in number order, each theatre's by day
 abbrev pub surgery_rows : Draft → List (Option Date) → Timetable → List Row
 surgery_rows I dates P = rows_below (theatre_count I) (rows_of_theatre I dates P)

@@ -182,8 +182,8 @@ impl<'a, E: Logged> Replica<'a, E> {
         self.last()
     }
 
-    /// The same, but with the cells that the verdict rests on: those of the footprint where the attempt isn't frozen
-    /// and the price's score is at most what its number may cost, and else none.
+    /// The offer of its worker for an attempt of this number, priced after the entries that it stands for. It has the
+    /// footprint's cells and versions where it isn't frozen and its score is at most what the number may cost.
     pub fn offer(&mut self, attempt: &E::Attempt, attempt_no: u32) -> &E::Offer
         requires { AreMoves self.old.base.instance (E.Attempt.moves attempt.now) }
         ensures offer { IsOfferOf self.old attempt_no (E.Attempt.moves attempt.now) (E.Offer.offered result.now) }

@@ -7,6 +7,7 @@ ghost use Rattle.ih_plan.specs.{Timetable.IsPlanOf, Timetable.care_of, Costs.is_
 ghost use Rattle.ih_solution.specs.Solution.{rooms_of, rooms_data, assignment_data, assignments_data, nurse_data};
 ghost use Rattle.ih_solution.specs.Solution.{nurses_data};
 
+use crate::listed::listed_values;
 use ih_plan::Plan;
 use ih_tables::{Instance, NurseNo, RoomNo, Shift};
 use serde_json::{Value, json};
@@ -104,14 +105,12 @@ fn nurse_value(
 }
 
 /// Every nurse, in number order.
-#[tactic(auto, using(crate::proofs::ListedValues::listed_steps))]
 pub fn nurse_values(alloc: Global, inst: &Instance, plan: &Plan) -> Result<Vec<Value>, AllocError>
     requires { IsPlanOf inst.now.draft plan.now }
     ensures { IfOk result (λ v. map view v.items ≡ nurses_data inst.now.draft plan.now) }
 {
-    let mut values = Vec::new(alloc);
-    for n in 0..inst.nurses() {
-        values.push(nurse_value(alloc, inst, plan, NurseNo(n))?)?;
-    }
-    Ok(values)
+    listed_values(alloc, inst.nurses(), |n| {
+        let nurse = NurseNo(n);
+        nurse_value(alloc, inst, plan, nurse)
+    })
 }

@@ -143,7 +143,7 @@ fn is_unmarked(marks: u64, stay: Option<Placement>) -> bool
     }
 }
 
-// The same where the stay counts, and no otherwise.
+// Whether the stay counts and has a theatre that isn't marked.
 fn is_one_more(marks: u64, there: bool, stay: Option<Placement>) -> bool
     requires { IfSome stay (λ at. at.theatre.0 < 64) }
     ensures { result ≡ (there && is_unmarked marks (option_map (λ (at : Placement). at.theatre.0) stay)) }

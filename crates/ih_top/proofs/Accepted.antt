@@ -14,13 +14,13 @@ use Rattle.ih_journal.specs.Texts.{heading, lines_from}
 use Rattle.ih_journal.proofs.HeadTexts.{heading_lacks, headings_differ, lawful_short}
 use Rattle.ih_words.specs.Replay.{ReplayCall}
 use Rattle.ih_shelf.specs.Outside.{Names}
-use Rattle.ih_answers.specs.declared.status.Status.{Status}
-use Rattle.ih_answers.specs.declared.status.Status.TheVariants.{JournalRefused, OutOfMemory}
+use Rattle.ih_endings.specs.declared.status.Status.{Status}
+use Rattle.ih_endings.specs.declared.status.Status.TheVariants.{JournalRefused, OutOfMemory}
 use Rattle.ih_inputs.specs.Reading.{HasInputs, HasPlan, two_files}
 use Rattle.ih_frame.specs.Ends.{HasNoFault}
 use Rattle.ih_frame.proofs.Complete.{accepted}
 use Rattle.ih_top.specs.Commands.{replay_inputs}
-use Rattle.ih_answers.specs.Inputs.{EndsUnread}
+use Rattle.ih_endings.specs.Inputs.{EndsUnread}
 use Rattle.ih_fill.specs.Starts.{started}
 use Rattle.ih_top.specs.JournalEnds.{IsRefused, JournalEnds}
 use Rattle.ih_top.specs.JournalFiles.{HasRead, JournalRead, IsHeadedBy, IsHeadless}

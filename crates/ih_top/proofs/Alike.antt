@@ -41,18 +41,18 @@ use Rattle.ih_tables.specs.declared.refusals.Refusal.{Refusal}
 use Rattle.ih_instance.specs.Instance.{instance}
 use Rattle.ih_solution.specs.Reading.{plan_in}
 use Rattle.ih_inputs.specs.declared.reading.TheConstants.{MAX_FILE}
-use Rattle.ih_answers.specs.declared.status.Role.TheVariants.{Instance, Solution}
-use Rattle.ih_answers.specs.declared.status.Status.{Status}
-use Rattle.ih_answers.specs.declared.status.Status.TheVariants.{Done, InstanceRefused, StartRefused, NoneFound, OutOfMemory, TooLong}
+use Rattle.ih_endings.specs.declared.status.Role.TheVariants.{Instance, Solution}
+use Rattle.ih_endings.specs.declared.status.Status.{Status}
+use Rattle.ih_endings.specs.declared.status.Status.TheVariants.{Done, InstanceRefused, StartRefused, NoneFound, OutOfMemory, TooLong}
 use Rattle.ih_inputs.specs.declared.error.InputError.{InputError}
 use Rattle.ih_inputs.specs.declared.error.InputError.TheVariants.{ReadFault as Unreadable, TooLong as Long, InstanceRefused as NoInstance, NextRefused as NoNext, OlderRefused as NoOlder, SolutionRefused as NoSolution, OutOfMemory as NoRoom}
 use Rattle.ih_inputs.specs.declared.error.InputRole.TheVariants.{Instance as InstanceInput, Journal as JournalInput, Next as NextInput, Older as OlderInput, Solution as SolutionInput}
 use Rattle.ih_frame.specs.Ends.{HasNoFault}
 use Rattle.ih_top.specs.Commands.{solve_inputs}
-use Rattle.ih_answers.specs.Inputs.{EndsUnread, unread_said, unread_status}
-use Rattle.ih_answers.specs.Ends.{Unchanged}
-use Rattle.ih_answers.specs.Texts.{instance_refused_text, solution_refused_text, too_long_text, none_found_text}
-use Rattle.ih_answers.proofs.Stopping.{named}
+use Rattle.ih_endings.specs.Inputs.{EndsUnread, unread_said, unread_status}
+use Rattle.ih_endings.specs.Ends.{Unchanged}
+use Rattle.ih_endings.specs.Texts.{instance_refused_text, solution_refused_text, too_long_text, none_found_text}
+use Rattle.ih_endings.proofs.Stopping.{named}
 use Rattle.ih_top.proofs.FaultlessEnds.{search-faultless}
 
 -- ---- one base

@@ -4,15 +4,15 @@ use Rattle.std.specs.Prelude.{◌⊎◌, Result, Ok, Err, IfOk}
 use Rattle.ih_words.specs.Generate.{GenCall}
 use Rattle.ih_words.specs.Words.{Call, solve, replay, salvage, check, chain, rounds, gen, demo, advise}
 use Rattle.ih_shelf.specs.Outside.{Names, IfTold}
-use Rattle.ih_answers.specs.declared.status.Status.{Status}
-use Rattle.ih_answers.specs.declared.status.Status.TheVariants.{Usage, OutOfMemory}
-use Rattle.ih_answers.specs.declared.answer.Answer.{Answer}
-use Rattle.ih_answers.specs.Answers.{Answers, IsConcluded, IsSaid}
-use Rattle.ih_answers.specs.Texts.{memory_text}
-use Rattle.ih_answers.specs.Ends.{Unchanged, Ends}
-use Rattle.ih_answers.proofs.Saying.{IsAnswerable, answers-weaker, beside, ended, memory-ended, said-answer, said-status, unsaid-by}
-use Rattle.ih_answers.proofs.Stopping.{unread-memory}
-use Rattle.ih_answers.proofs.Files.{told-same}
+use Rattle.ih_endings.specs.declared.status.Status.{Status}
+use Rattle.ih_endings.specs.declared.status.Status.TheVariants.{Usage, OutOfMemory}
+use Rattle.ih_endings.specs.declared.answer.Answer.{Answer}
+use Rattle.ih_endings.specs.Answers.{Answers, IsConcluded, IsSaid}
+use Rattle.ih_endings.specs.Texts.{memory_text}
+use Rattle.ih_endings.specs.Ends.{Unchanged, Ends}
+use Rattle.ih_endings.proofs.Saying.{IsAnswerable, answers-weaker, beside, ended, memory-ended, said-answer, said-status, unsaid-by}
+use Rattle.ih_endings.proofs.Stopping.{unread-memory}
+use Rattle.ih_endings.proofs.Files.{told-same}
 use Rattle.ih_frame.specs.Ends.{MadeEnds}
 use Rattle.ih_frame.specs.Outcomes.{IsLeft, outcome_of}
 use Rattle.ih_frame.specs.declared.outcome.Outcome.{Outcome}

@@ -13,14 +13,14 @@ use Rattle.ih_words.specs.Generate.{GenCall}
 use Rattle.ih_words.specs.Replay.{ReplayCall}
 use Rattle.ih_words.specs.Words.{Call, solve, replay, salvage, check, chain, rounds, gen, demo, advise}
 use Rattle.ih_shelf.specs.Outside.{Names, Rose}
-use Rattle.ih_answers.specs.declared.status.Status.{Status}
-use Rattle.ih_answers.specs.declared.status.Status.TheVariants.{Done, NoneFound, WriteFault, OutOfMemory}
+use Rattle.ih_endings.specs.declared.status.Status.{Status}
+use Rattle.ih_endings.specs.declared.status.Status.TheVariants.{Done, NoneFound, WriteFault, OutOfMemory}
 use Rattle.ih_inputs.specs.Reading.{Given, HasGiven, InputFiles}
 use Rattle.ih_frame.specs.Ends.{AreAnswers, HasNoFault}
 use Rattle.ih_frame.specs.Outcomes.{OutcomeState}
 use Rattle.ih_frame.proofs.Complete.{accepted, command-answered, no-fault, reached}
 use Rattle.ih_top.specs.Commands.{advise_inputs, check_inputs, solve_inputs, GenEnds, generated_outcome, IsAdvised, IsChecked, checked_status}
-use Rattle.ih_answers.specs.Inputs.{EndsUnread}
+use Rattle.ih_endings.specs.Inputs.{EndsUnread}
 use Rattle.ih_top.specs.Searches.{of_chains, of_moves}
 use Rattle.ih_top.specs.Rounds.{of_rounds}
 use Rattle.ih_top.specs.Texts.{done_text, salvaged_text}
@@ -28,7 +28,7 @@ use Rattle.ih_top.specs.JournalEnds.{IsRefused, JournalEnds}
 use Rattle.ih_top.specs.JournalFiles.{HasRead, JournalRead, IsHeadless}
 use Rattle.ih_top.specs.JournalUses.{IsRefusedJournal, IsReplay, IsSalvage}
 use Rattle.ih_top.specs.Ends.{CallEnds, Leaves, HasFiles, IsAnswered, IsComplete}
-use Rattle.ih_answers.specs.Ends.{HasCause}
+use Rattle.ih_endings.specs.Ends.{HasCause}
 use Rattle.ih_top.specs.Demo.{DemoEnds}
 use Rattle.ih_top.proofs.Accepted.{journal-accepted, not-headless, not-refused}
 use Rattle.ih_top.proofs.FaultlessEnds.{IsFaultless, journal-faultless, search-faultless}

@@ -41,8 +41,8 @@ use Rattle.ih_rounds.specs.Rounds.{Round, base_in, journals, options_in}
 use Rattle.ih_rounds.specs.Laws.{SixteenJournalsAreShort}
 use Rattle.ih_rounds.proofs.Runs.{lawful-in}
 use Rattle.ih_words.specs.Plain.{PlainCall}
-use Rattle.ih_answers.specs.declared.status.Status.{Status}
-use Rattle.ih_answers.specs.declared.status.Status.TheVariants.{JournalRefused}
+use Rattle.ih_endings.specs.declared.status.Status.{Status}
+use Rattle.ih_endings.specs.declared.status.Status.TheVariants.{JournalRefused}
 use Rattle.ih_top.specs.JournalLines.{HasLine, IsRefusedAt, IsRestRefused}
 use Rattle.ih_frame.specs.Ends.{HasNoFault}
 use Rattle.ih_top.specs.Rounds.{of_rounds}

@@ -12,24 +12,24 @@ use Rattle.ih_inputs.specs.Reading.{Given, HasBytes, HasGiven, HasJournal}
 use Rattle.ih_top.specs.declared.output.BestOutput.{BestOutput}
 use Rattle.ih_top.specs.declared.outcome.JournalOutcome.{JournalOutcome}
 use Rattle.ih_top.specs.declared.outcome.JournalOutcome.TheVariants.{Refused, Taken}
-use Rattle.ih_answers.specs.declared.status.Status.{Status}
-use Rattle.ih_answers.specs.declared.status.Status.TheVariants.{Done, NoneFound, WriteFault, OutOfMemory, JournalRefused}
-use Rattle.ih_answers.specs.declared.status.Role.TheVariants.{Out}
+use Rattle.ih_endings.specs.declared.status.Status.{Status}
+use Rattle.ih_endings.specs.declared.status.Status.TheVariants.{Done, NoneFound, WriteFault, OutOfMemory, JournalRefused}
+use Rattle.ih_endings.specs.declared.status.Role.TheVariants.{Out}
 use Rattle.ih_frame.specs.Ends.{CommandEnds}
 use Rattle.ih_frame.specs.Outcomes.{AreBegun, AreWritten, IsLeft, IsOneOf, StopsAt, WritingState, writes_one}
 use Rattle.ih_top.specs.Outputs.{IsOutcome, IsTaken, journal_outcome, IsBestSaid}
 use Rattle.ih_top.specs.JournalEnds.{HasBest, JournalEnds}
 use Rattle.ih_top.specs.Commands.{replay_inputs}
-use Rattle.ih_answers.specs.Inputs.{EndsUnread}
+use Rattle.ih_endings.specs.Inputs.{EndsUnread}
 use Rattle.ih_top.specs.JournalFiles.{HasRead, JournalRead, read_of, IsHeadedBy, IsHeadless}
 use Rattle.ih_top.specs.declared.journals.JournalUse.{JournalUse}
 use Rattle.ih_top.specs.declared.journals.JournalUse.TheVariants.{Replay, Salvage}
 use Rattle.ih_top.specs.JournalUses.{IsJournalUse, IsLinesFor, IsOutcomeFor, JournalUseEnds, refused_for, said_for, taken_for}
-use Rattle.ih_answers.specs.Ends.{Ends, Unchanged}
-use Rattle.ih_answers.specs.Texts.{none_found_text, unwritten_text}
+use Rattle.ih_endings.specs.Ends.{Ends, Unchanged}
+use Rattle.ih_endings.specs.Texts.{none_found_text, unwritten_text}
 use Rattle.ih_top.specs.Texts.{journal_refused_text}
-use Rattle.ih_answers.proofs.Files.{told-weaker}
-use Rattle.ih_answers.proofs.Stopping.{unread-lack, unread-only}
+use Rattle.ih_endings.proofs.Files.{told-weaker}
+use Rattle.ih_endings.proofs.Stopping.{unread-lack, unread-only}
 use Rattle.ih_top.proofs.Leaving.{ends-weaker, left-by, one-begun, one-stopped, one-written, said-by}
 
 -- ---- how a call ends of which this is left

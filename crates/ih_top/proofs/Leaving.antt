@@ -1,13 +1,13 @@
 -- What is left of an outcome, by its cases, and what that means where it writes one file at most.
 use Rattle.std.proofs.Common.{◌∙◌, ℕ, sym, subst, inl, inr, List, [], ◌∷◌, Option, Some}
 use Rattle.ih_shelf.specs.Outside.{IfTold, IsWritten, MayBeWritten, Names}
-use Rattle.ih_answers.specs.declared.status.Status.{Status}
-use Rattle.ih_answers.specs.declared.status.Status.TheVariants.{OutOfMemory, WriteFault}
-use Rattle.ih_answers.specs.Answers.{unsaid}
-use Rattle.ih_answers.specs.Ends.{Ends, Unchanged}
-use Rattle.ih_answers.specs.Texts.{memory_text, unwritten_text}
-use Rattle.ih_answers.proofs.Files.{told-weaker, whole-text}
-use Rattle.ih_answers.proofs.Later.{ends-later}
+use Rattle.ih_endings.specs.declared.status.Status.{Status}
+use Rattle.ih_endings.specs.declared.status.Status.TheVariants.{OutOfMemory, WriteFault}
+use Rattle.ih_endings.specs.Answers.{unsaid}
+use Rattle.ih_endings.specs.Ends.{Ends, Unchanged}
+use Rattle.ih_endings.specs.Texts.{memory_text, unwritten_text}
+use Rattle.ih_endings.proofs.Files.{told-weaker, whole-text}
+use Rattle.ih_endings.proofs.Later.{ends-later}
 use Rattle.ih_frame.specs.Outcomes.{AreBegun, AreWritten, IsLeft, IsOneOf, IsStatusOf, IsStopped, OutcomeState, StopsAt, WritingState, says}
 
 -- each end of a family is one of another

@@ -23,8 +23,8 @@ use Rattle.ih_words.specs.Replay.{ReplayCall}
 use Rattle.ih_words.specs.Solve.{SolveCall}
 use Rattle.ih_shelf.specs.Outside.{Names, bytes_at}
 use Rattle.ih_inputs.specs.declared.reading.TheConstants.{MAX_FILE, MAX_JOURNAL}
-use Rattle.ih_answers.specs.declared.status.Status.{Status}
-use Rattle.ih_answers.specs.declared.status.Status.TheVariants.{Done, NoneFound}
+use Rattle.ih_endings.specs.declared.status.Status.{Status}
+use Rattle.ih_endings.specs.declared.status.Status.TheVariants.{Done, NoneFound}
 use Rattle.ih_inputs.specs.Reading.{HasInstance, HasPlan}
 use Rattle.ih_top.specs.JournalLines.{Begins}
 use Rattle.ih_frame.specs.Ends.{HasNoFault}
@@ -35,7 +35,7 @@ use Rattle.ih_top.specs.JournalUses.{IsRefusedJournal, IsReplay, ReplayEnds, IsS
 use Rattle.ih_top.specs.Searches.{HasBase, IsSearch, solution_at, of_moves}
 use Rattle.ih_fill.specs.Starts.{started}
 use Rattle.ih_top.specs.Texts.{done_text, salvaged_line, salvaged_text}
-use Rattle.ih_answers.specs.Texts.{none_found_text}
+use Rattle.ih_endings.specs.Texts.{none_found_text}
 use Rattle.ih_top.proofs.Accepted.{journal-accepted, not-headless, not-refused, same-search}
 use Rattle.ih_top.proofs.FaultlessEnds.{journal-faultless}
 use Rattle.ih_top.proofs.JournalLaws.{longest-is}

@@ -9,17 +9,17 @@ use Rattle.ih_inputs.specs.Reading.{InputFiles, two_files, Given}
 use Rattle.ih_tables.specs.Bills.{feasible}
 use Rattle.ih_plan.specs.BillOf.{bill_of}
 use Rattle.ih_validate.specs.Report.{report}
-use Rattle.ih_answers.specs.declared.status.Status.{Status}
-use Rattle.ih_answers.specs.declared.status.Status.TheVariants.{Done, Infeasible, OutOfMemory}
+use Rattle.ih_endings.specs.declared.status.Status.{Status}
+use Rattle.ih_endings.specs.declared.status.Status.TheVariants.{Done, Infeasible, OutOfMemory}
 use Rattle.ih_frame.specs.Outcomes.{OutcomeState, says, IsLeft, writes_one}
 use Rattle.ih_advise.specs.Advising.{advice}
 use Rattle.ih_advise.specs.Texts.{advice_text}
 use Rattle.ih_gen.specs.Generated.{generated}
 use Rattle.ih_words.specs.Generate.{GenCall}
 use Rattle.ih_shelf.specs.Outside.{Names, IfTold}
-use Rattle.ih_answers.specs.declared.status.Role.TheVariants.{Out}
-use Rattle.ih_answers.specs.Ends.{Unchanged}
-use Rattle.ih_answers.specs.Texts.{memory_text}
+use Rattle.ih_endings.specs.declared.status.Role.TheVariants.{Out}
+use Rattle.ih_endings.specs.Ends.{Unchanged}
+use Rattle.ih_endings.specs.Texts.{memory_text}
 
 abbrev pub solve_inputs : SolveCall → InputFiles
 solve_inputs s = two_files s.instance s.start.file

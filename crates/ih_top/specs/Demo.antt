@@ -12,9 +12,9 @@ use Rattle.ih_journal.specs.Legal.{IsFull}
 use Rattle.ih_cellbook.specs.Legal.{AreExact}
 use Rattle.ih_gen.specs.Generated.{generated}
 use Rattle.ih_instance.specs.Instance.{instance}
-use Rattle.ih_answers.specs.declared.status.Status.{Status}
-use Rattle.ih_answers.specs.declared.status.Status.TheVariants.{Done, NoneFound, WriteFault, OutOfMemory}
-use Rattle.ih_answers.specs.Texts.{memory_text, none_found_text}
+use Rattle.ih_endings.specs.declared.status.Status.{Status}
+use Rattle.ih_endings.specs.declared.status.Status.TheVariants.{Done, NoneFound, WriteFault, OutOfMemory}
+use Rattle.ih_endings.specs.Texts.{memory_text, none_found_text}
 use Rattle.ih_top.specs.Texts.{demo_text, verdicts_of}
 
 -- one worker with the number as its seed

@@ -7,10 +7,10 @@ use Rattle.ih_journal.specs.Legal.{IsFull}
 use Rattle.ih_journal.specs.Texts.{lines_from}
 use Rattle.ih_words.specs.Words.{Call, solve, replay, salvage, check, chain, rounds, gen, demo, advise}
 use Rattle.ih_shelf.specs.Outside.{Names, IfTold}
-use Rattle.ih_answers.specs.declared.status.Status.{Status}
-use Rattle.ih_answers.specs.declared.status.Status.TheVariants.{Done, Usage, NoneFound, OutOfMemory, Infeasible}
+use Rattle.ih_endings.specs.declared.status.Status.{Status}
+use Rattle.ih_endings.specs.declared.status.Status.TheVariants.{Done, Usage, NoneFound, OutOfMemory, Infeasible}
 use Rattle.ih_top.specs.Commands.{IsAdvised, advise_inputs, check_inputs, solve_inputs, IsChecked, GenEnds}
-use Rattle.ih_answers.specs.Ends.{Ends, Unchanged}
+use Rattle.ih_endings.specs.Ends.{Ends, Unchanged}
 use Rattle.ih_inputs.specs.Reading.{Given, HasGiven, InputFiles}
 use Rattle.ih_frame.specs.Ends.{CommandEnds}
 use Rattle.ih_top.specs.Searches.{SolveEnds, ChainEnds}
@@ -18,7 +18,7 @@ use Rattle.ih_top.specs.JournalFiles.{HasRead, JournalRead, IsHeadedBy}
 use Rattle.ih_top.specs.JournalUses.{ReplayEnds, SalvageEnds}
 use Rattle.ih_top.specs.Rounds.{RoundsEnds}
 use Rattle.ih_top.specs.Demo.{DemoEnds}
-use Rattle.ih_answers.specs.Texts.{memory_text}
+use Rattle.ih_endings.specs.Texts.{memory_text}
 use Rattle.ih_top.specs.Texts.{usage_text}
 
 -- ---- a call with lawful words

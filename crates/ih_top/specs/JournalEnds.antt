@@ -8,13 +8,13 @@ use Rattle.ih_journal.specs.Tried.{Tried, tries}
 use Rattle.ih_journal.specs.Best.{IsBest, HasNone}
 use Rattle.ih_words.specs.Replay.{ReplayCall}
 use Rattle.ih_shelf.specs.Outside.{IsWritten, MayBeWritten, Names, IfTold}
-use Rattle.ih_answers.specs.declared.status.Status.{Status}
-use Rattle.ih_answers.specs.declared.status.Status.TheVariants.{Done, NoneFound, WriteFault, OutOfMemory, JournalRefused}
-use Rattle.ih_answers.specs.declared.status.Role.TheVariants.{Out}
+use Rattle.ih_endings.specs.declared.status.Status.{Status}
+use Rattle.ih_endings.specs.declared.status.Status.TheVariants.{Done, NoneFound, WriteFault, OutOfMemory, JournalRefused}
+use Rattle.ih_endings.specs.declared.status.Role.TheVariants.{Out}
 use Rattle.ih_top.specs.Searches.{solution_at}
-use Rattle.ih_answers.specs.Ends.{Unchanged}
-use Rattle.ih_answers.specs.Inputs.{EndsUnread}
-use Rattle.ih_answers.specs.Texts.{memory_text, unwritten_text, none_found_text}
+use Rattle.ih_endings.specs.Ends.{Unchanged}
+use Rattle.ih_endings.specs.Inputs.{EndsUnread}
+use Rattle.ih_endings.specs.Texts.{memory_text, unwritten_text, none_found_text}
 use Rattle.ih_top.specs.Texts.{journal_refused_text}
 use Rattle.ih_top.specs.Commands.{replay_inputs}
 use Rattle.ih_top.specs.JournalFiles.{JournalRead, HasRead}

@@ -25,7 +25,7 @@ pub record JournalRead : Type 0 where
 abbrev pub read_from : Inputs → List ℕ → JournalRead
 read_from i bytes = record { instance = i.inst.value.draft; plan = i.plan; bytes = bytes }
 
--- the same of what the files give
+-- the instance, the timetable of the start and the bytes of a journal that the files give; no bytes without a journal
 abbrev pub read_of : Given → JournalRead
 read_of g = record { instance = g.instance; plan = g.plan; bytes = unwrap_or g.journal [] }
 

@@ -10,7 +10,7 @@ use Rattle.ih_journal.specs.Texts.{lines_from}
 use Rattle.ih_words.specs.Replay.{ReplayCall}
 use Rattle.ih_arguments.specs.Start.{StartCall}
 use Rattle.ih_shelf.specs.Outside.{Names}
-use Rattle.ih_answers.specs.declared.status.Status.{Status}
+use Rattle.ih_endings.specs.declared.status.Status.{Status}
 use Rattle.ih_top.specs.Histories.{IsSound}
 use Rattle.ih_top.specs.JournalLines.{IsRefusedAt, Begins}
 use Rattle.ih_top.specs.Texts.{done_text, salvaged_text}

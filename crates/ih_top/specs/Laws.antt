@@ -21,8 +21,8 @@ use Rattle.ih_words.specs.Solve.{SolveCall}
 use Rattle.ih_words.specs.Words.{IsNamed, chain, rounds}
 use Rattle.ih_shelf.specs.Outside.{Names, bytes_at}
 use Rattle.ih_inputs.specs.declared.reading.TheConstants.{MAX_JOURNAL}
-use Rattle.ih_answers.specs.declared.status.Status.{Status}
-use Rattle.ih_answers.specs.declared.status.Status.TheVariants.{Done, JournalRefused, NoneFound, OutOfMemory}
+use Rattle.ih_endings.specs.declared.status.Status.{Status}
+use Rattle.ih_endings.specs.declared.status.Status.TheVariants.{Done, JournalRefused, NoneFound, OutOfMemory}
 use Rattle.ih_frame.specs.Ends.{HasNoFault}
 use Rattle.ih_top.specs.Searches.{of_chains, HasFoundNone, IsDone, IsSearch, SearchEnds, SearchForm, solution_at, of_moves}
 use Rattle.ih_top.specs.Demo.{IsShown}
@@ -31,7 +31,7 @@ use Rattle.ih_top.specs.JournalLines.{Begins, IsRefusedAt}
 use Rattle.ih_top.specs.JournalUses.{AreNotFull, ReplayEnds, SalvageEnds}
 use Rattle.ih_top.specs.Rounds.{of_rounds}
 use Rattle.ih_top.specs.Texts.{journal_refused_text, salvaged_line, salvaged_text}
-use Rattle.ih_answers.specs.Texts.{none_found_text}
+use Rattle.ih_endings.specs.Texts.{none_found_text}
 
 -- lines that are refused are those of no full history
 abbrev pub RefusedLinesAreNotFull : Type 0
@@ -98,7 +98,8 @@ SolvesAreToldApart = (s t : SolveCall) (old new before after : Names) (b c : Bas
     → HasLeft of_moves s old new b H → HasLeft of_moves t before after c G → new s.journal ≡ after t.journal
     → (s.options ≡ t.options) × (H ≡ G)
 
--- So have two calls of chain that words name, and their chains had the same length.
+-- Two calls of chain that words name, over instances with the same bytes, which left the same journal, had the same
+-- options and chains of the same length, and made the same history.
 abbrev pub ChainsAreToldApart : Type 0
 ChainsAreToldApart = (s t : PlainCall) (old new before after : Names) (b c : Base) (H G : List ChainEntry)
     → IsNamed (chain s) → IsNamed (chain t) → bytes_at old s.search.instance ≡ bytes_at before t.search.instance
@@ -106,7 +107,8 @@ ChainsAreToldApart = (s t : PlainCall) (old new before after : Names) (b c : Bas
     → new s.search.journal ≡ after t.search.journal
     → (s.search.options ≡ t.search.options) × (s.number ≡ t.number) × (H ≡ G)
 
--- So have two calls of rounds that words name: each round has the same history, and there are as many.
+-- Two calls of rounds that words name, over instances with the same bytes, which left the same journal, had the same
+-- options and as many rounds, and each round has the same history.
 abbrev pub RoundsAreToldApart : Type 0
 RoundsAreToldApart = (s t : PlainCall) (old new before after : Names) (b c : Base) (rs ss : List Round)
     → IsNamed (rounds s) → IsNamed (rounds t) → bytes_at old s.search.instance ≡ bytes_at before t.search.instance
@@ -187,7 +189,7 @@ pub record IsRefusedBack (r : ReplayCall) (there left : Names) (ended : Status) 
   pub salvaged : SalvageEnds r (Some there) (Some left) ended said
       → EndsIn (JournalRefused no_heading) (journal_refused_text no_heading) (Unit {0}) ended said
 
--- So they do with whatever instance and start are accepted.
+-- Replay and salvage refuse the journal of a search by chains at its heading, whatever instance and start are given.
 abbrev pub ChainsAreRefused : Type 0
 ChainsAreRefused = (c : PlainCall) (r : ReplayCall) (before after there left : Names) (b : Base) (H : List ChainEntry)
     (ended : Status) (said : List ℕ)

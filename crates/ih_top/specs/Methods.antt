@@ -12,7 +12,7 @@ use Rattle.ih_frame.specs.Outcomes.{OutcomeState}
 use Rattle.ih_top.specs.declared.output.Output.{Output}
 use Rattle.ih_top.specs.declared.searching.Method.{Method}
 use Rattle.ih_top.specs.declared.searching.Method.TheVariants.{Moves, Chains, Rounds}
-use Rattle.ih_answers.specs.declared.status.Status.{Status}
+use Rattle.ih_endings.specs.declared.status.Status.{Status}
 use Rattle.ih_top.specs.Searches.{of_chains, SearchEnds, of_moves}
 use Rattle.ih_top.specs.Outputs.{IsOutput, base_from, search_outcome}
 use Rattle.ih_top.specs.Rounds.{of_rounds}

@@ -14,9 +14,9 @@ use Rattle.ih_frame.specs.Outcomes.{OutcomeState, WritingState, says, writes_one
 use Rattle.ih_top.specs.declared.output.Output.{Output}
 use Rattle.ih_top.specs.declared.output.BestOutput.{BestOutput}
 use Rattle.ih_fill.specs.Starts.{started}
-use Rattle.ih_answers.specs.declared.status.Role.TheVariants.{Journal, Out}
-use Rattle.ih_answers.specs.declared.status.Status.TheVariants.{Done, NoneFound, JournalRefused}
-use Rattle.ih_answers.specs.Texts.{none_found_text}
+use Rattle.ih_endings.specs.declared.status.Role.TheVariants.{Journal, Out}
+use Rattle.ih_endings.specs.declared.status.Status.TheVariants.{Done, NoneFound, JournalRefused}
+use Rattle.ih_endings.specs.Texts.{none_found_text}
 use Rattle.ih_top.specs.Texts.{done_text, found_text, journal_refused_text}
 use Rattle.ih_top.specs.Searches.{SearchForm, solution_at}
 use Rattle.ih_journal.specs.declared.entries.Entry.{Entry}
@@ -31,7 +31,7 @@ pub record IsSaidBest {K : Type 0} (is_best : K → Type 0) (solution_of said : 
   pub solution : o.solution.items ≡ solution_of place
   pub text : o.text.items ≡ said place
 
--- the same, where there is a best
+-- a best, its solution and what is said of it, where there is one; else `none` holds
 abbrev pub HasSaidBest : {K : Type 0} → Type 0 → (K → Type 0) → (K → List ℕ) → (K → List ℕ) → Option BestOutput → Type 0
 HasSaidBest none is_best solution said None = none
 HasSaidBest none is_best solution said (Some o) = IsSaidBest is_best solution said o

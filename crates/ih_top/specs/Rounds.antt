@@ -22,7 +22,7 @@ use Rattle.ih_rounds.specs.Best.{HaveNone, IsBestOf}
 use Rattle.ih_rounds.specs.Rounds.{AreRounds, Round, base_in, journals}
 use Rattle.ih_words.specs.Plain.{PlainCall}
 use Rattle.ih_shelf.specs.Outside.{Names}
-use Rattle.ih_answers.specs.declared.status.Status.{Status}
+use Rattle.ih_endings.specs.declared.status.Status.{Status}
 use Rattle.ih_top.specs.Searches.{SearchEnds, SearchForm, solution_at}
 
 -- the place of the best among the entries of its round

@@ -15,15 +15,15 @@ use Rattle.ih_chain.specs.Texts.{chain_journal}
 use Rattle.ih_words.specs.Plain.{PlainCall}
 use Rattle.ih_cellbook.specs.Keeping.{IsBase}
 use Rattle.ih_solution.specs.Solution.{solution}
-use Rattle.ih_answers.specs.declared.status.Status.{Status}
-use Rattle.ih_answers.specs.declared.status.Status.TheVariants.{Done, NoneFound, WriteFault, OutOfMemory}
-use Rattle.ih_answers.specs.declared.status.Role.TheVariants.{Journal, Out}
+use Rattle.ih_endings.specs.declared.status.Status.{Status}
+use Rattle.ih_endings.specs.declared.status.Status.TheVariants.{Done, NoneFound, WriteFault, OutOfMemory}
+use Rattle.ih_endings.specs.declared.status.Role.TheVariants.{Journal, Out}
 use Rattle.ih_top.specs.Histories.{IsSound, HasStart}
 use Rattle.ih_top.specs.Commands.{solve_inputs}
-use Rattle.ih_answers.specs.Inputs.{EndsUnread}
-use Rattle.ih_answers.specs.Texts.{memory_text, unwritten_text, none_found_text}
+use Rattle.ih_endings.specs.Inputs.{EndsUnread}
+use Rattle.ih_endings.specs.Texts.{memory_text, unwritten_text, none_found_text}
 use Rattle.ih_top.specs.Texts.{done_text}
-use Rattle.ih_answers.specs.Ends.{Unchanged}
+use Rattle.ih_endings.specs.Ends.{Unchanged}
 use Rattle.ih_journal.specs.declared.entries.Entry.{Entry}
 use Rattle.ih_journal.specs.Texts.{journal}
 

@@ -1,5 +1,5 @@
 -- The texts that the program puts out: each is one text, in one put, and ends with a line feed. Those of files that
--- can't be had or written, of memory, and of a search that found none are in `ih_answers`.
+-- can't be had or written, of memory, and of a search that found none are in `ih_endings`.
 use Rattle.std.specs.Prelude.{ℕ, Bool, true, false, List, ◌++◌, codes, decimal, length}
 use Rattle.std.specs.List.{count_by}
 use Rattle.ih_tables.specs.declared.bills.Bill.{Bill}
@@ -56,7 +56,7 @@ done_text b H k = found_text k (length H) b.instance.weights (bill_of b.instance
 abbrev pub salvaged_line : ℕ → List ℕ
 salvaged_line lines = codes "salvaged " ++ (decimal lines ++ codes "\n")
 
--- the same of the lines that a journal still tells
+-- how many of a journal's lines still count, then the place of their best and the report on its timetable
 abbrev pub salvaged_text : Base → List Tried → ℕ → List ℕ
 salvaged_text b H k = salvaged_line (length H) ++ done_text b H k
 
@@ -77,7 +77,7 @@ verdicts_line accepted declined stale =
     codes "accepted " ++ (decimal accepted ++ (codes " declined " ++ (decimal declined ++ (codes " stale "
     ++ (decimal stale ++ codes "\n")))))
 
--- the same of the moves of a history
+-- how many moves of a history were accepted, declined and stale
 abbrev pub counts_line : List Entry → List ℕ
 counts_line H = verdicts_line (verdicts_of is_accepted H) (verdicts_of is_declined H) (verdicts_of is_stale H)
 

@@ -7,7 +7,7 @@ ghost use Rattle.ih_words.specs.Advise.{IsLawfulAdvise, advise_call};
 ghost use Rattle.ih_top.specs.Commands.{IsAdvised};
 
 use ih_advise::advice_text;
-use ih_answers::Status;
+use ih_endings::Status;
 use ih_frame::Outcome;
 use ih_inputs::Inputs;
 use ih_shelf::Gate;

@@ -6,7 +6,7 @@ ghost use Rattle.ih_frame.specs.Outcomes.{IsOwnStatus};
 ghost use Rattle.ih_top.specs.{Commands.IsChecked, Commands.checked_status, Commands.check_inputs};
 
 use crate::inputs::two_names;
-use ih_answers::Status;
+use ih_endings::Status;
 use ih_frame::{Command, Outcome};
 use ih_inputs::{InputNames, Inputs};
 use ih_validate::{bill, report};

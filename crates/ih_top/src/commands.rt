@@ -2,8 +2,8 @@
 
 ghost use Rattle.std.specs.Prelude.{Some};
 ghost use Rattle.ih_shelf.specs.Outside.{IfTold, IsOnePutAtMost};
-ghost use Rattle.ih_answers.specs.{Answers.HasShelfCause, Ends.Ends, Ends.HasCause, Ends.Received};
-ghost use Rattle.ih_answers.specs.Texts.{ReceivedPart};
+ghost use Rattle.ih_endings.specs.{Answers.HasShelfCause, Ends.Ends, Ends.HasCause, Ends.Received};
+ghost use Rattle.ih_endings.specs.Texts.{ReceivedPart};
 ghost use Rattle.ih_words.specs.Words.{HasLawfulOptions, command_call, OutDiffers};
 ghost use Rattle.ih_top.specs.{Ends.CallEnds, Ends.IsUntouched};
 
@@ -13,7 +13,7 @@ use crate::gated::{Gated, perform_gated};
 use crate::generate::generated_outcome;
 use crate::journals::{JournalUse, Taking};
 use crate::searching::Method;
-use ih_answers::{Status, conclude};
+use ih_endings::{Status, conclude};
 use ih_frame::finish;
 use ih_shelf::{Gate, Shelf, Sink};
 use ih_words::Command;

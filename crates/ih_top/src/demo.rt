@@ -4,13 +4,13 @@ ghost use Rattle.std.specs.Prelude.{◌≡◌, ◌++◌, ℕ, IfOk, Ok, option_m
 ghost use Rattle.ih_journal.specs.{Attempts.is_stale, History.is_accepted};
 ghost use Rattle.ih_gen.specs.Generated.{generated};
 ghost use Rattle.ih_instance.specs.Instance.{instance};
-ghost use Rattle.ih_answers.specs.Answers.{Answers, HasFileCause};
+ghost use Rattle.ih_endings.specs.Answers.{Answers, HasFileCause};
 ghost use Rattle.ih_top.specs.Demo.{DemoEnds, IsShown, demo_options};
 ghost use Rattle.ih_top.specs.Texts.{counts_line, demo_line, is_declined, verdicts_of};
 
 use crate::output::{BestOutput, best_of};
-use ih_answers::{Answer, Status, none_found, out_of_memory};
 use ih_desk::Given;
+use ih_endings::{Answer, Status, none_found, out_of_memory};
 use ih_gen::generate;
 use ih_instance::{InstanceError, read_instance};
 use ih_journal::{Entry, Options, Verdict};

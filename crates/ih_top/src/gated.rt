@@ -4,15 +4,15 @@
 ghost use Rattle.std.specs.Prelude.{◌≡◌, IfOk};
 ghost use Rattle.ih_shelf.specs.Outside.{IfTold, IsOnePutAtMost};
 ghost use Rattle.ih_inputs.specs.Reading.{ArePlans, files_of, given_of};
-ghost use Rattle.ih_answers.specs.Answers.{Answers, HasShelfCause};
-ghost use Rattle.ih_answers.specs.{Ends.Ends, Ends.HasCause, Ends.Received, Texts.ReceivedPart};
+ghost use Rattle.ih_endings.specs.Answers.{Answers, HasShelfCause};
+ghost use Rattle.ih_endings.specs.{Ends.Ends, Ends.HasCause, Ends.Received, Texts.ReceivedPart};
 ghost use Rattle.ih_frame.specs.{Ends.CommandEnds, Outcomes.IsOwnStatus, Outcomes.outcome_of};
 ghost use Rattle.ih_top.specs.Methods.{IsLawfulGated, comes_to, gated_inputs};
 
 use crate::advise::advised;
 use crate::inputs::two_names;
 use crate::searching::{Method, searched};
-use ih_answers::{Answer, Status, conclude, read_or_answer};
+use ih_endings::{Answer, Status, conclude, read_or_answer};
 use ih_frame::{Outcome, carry_out};
 use ih_inputs::{InputNames, Inputs};
 use ih_shelf::{Gate, Shelf, Sink};

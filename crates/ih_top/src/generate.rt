@@ -5,7 +5,7 @@ ghost use Rattle.ih_words.specs.Generate.{gen_call};
 ghost use Rattle.ih_frame.specs.Outcomes.{IsOwnStatus, outcome_of};
 ghost use Rattle.ih_top.specs.Commands.{generated_outcome};
 
-use ih_answers::Role;
+use ih_endings::Role;
 use ih_frame::Outcome;
 use ih_gen::generate;
 use ih_words::Gen;

@@ -17,7 +17,7 @@ use crate::salvage::salvage_lines;
 use ih_desk::Given;
 use ih_frame::{Command, Outcome};
 use ih_inputs::{InputNames, Inputs};
-use ih_parfill::begin;
+use ih_parfill::search_start;
 use ih_words::{Replay, Start};
 use std::alloc::{AllocError, Global};
 use std::sync::Wait;
@@ -74,7 +74,7 @@ fn found_in<R: Threads + Wait + Sync>(
     let Some((options, lines)) = heading_of(bytes) else {
         return Ok(headless());
     };
-    let begun = begin(rt, alloc, inputs, start.fill, options.hard, options.workers)?;
+    let begun = search_start(rt, alloc, inputs, start.fill, options.hard, options.workers)?;
     let given = Given {
         inst: &*begun.inst,
         start: &begun.start,

@@ -24,7 +24,7 @@ mod solve;
 mod texts;
 mod writer;
 
-pub use ih_answers::{Role, Status};
+pub use ih_endings::{Role, Status};
 pub use ih_inputs::MAX_JOURNAL;
 pub use laws::{
     chains_are_refused, journals_tell_calls_apart, limits_are_these, lone_searches_are_alike,

@@ -6,7 +6,7 @@ ghost use Rattle.ih_top.specs.Outputs.{journal_outcome};
 
 use crate::output::BestOutput;
 use crate::texts::{journal_refused_text, none_found_text};
-use ih_answers::{Role, Status};
+use ih_endings::{Role, Status};
 use ih_frame::Outcome;
 use ih_journal::{JournalRefusal, Reason};
 use std::alloc::{AllocError, Global};

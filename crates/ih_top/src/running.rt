@@ -2,15 +2,15 @@
 
 ghost use Rattle.std.specs.Prelude.{map, string_bytes};
 ghost use Rattle.ih_words.specs.Words.{call_of};
-ghost use Rattle.ih_answers.specs.Texts.{ReceivedPart};
-ghost use Rattle.ih_answers.specs.Answers.{HasShelfCause};
+ghost use Rattle.ih_endings.specs.Texts.{ReceivedPart};
+ghost use Rattle.ih_endings.specs.Answers.{HasShelfCause};
 ghost use Rattle.ih_top.specs.Ends.{IsComplete, IsUntouched, Leaves};
-ghost use Rattle.ih_answers.specs.Ends.{Received, HasCause};
+ghost use Rattle.ih_endings.specs.Ends.{Received, HasCause};
 ghost use Rattle.ih_shelf.specs.Outside.{IfTold, IsOnePutAtMost, Rose};
 
 use crate::commands::perform;
 use crate::texts::usage;
-use ih_answers::{Status, conclude, conclude_memory};
+use ih_endings::{Status, conclude, conclude_memory};
 use ih_shelf::{Gate, Shelf, Sink};
 use ih_words::{WordsError, read_words};
 use std::alloc::Global;

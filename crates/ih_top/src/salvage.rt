@@ -23,7 +23,7 @@ fn salvaged_line(alloc: Global, lines: u32) -> Result<String, AllocError>
     format!(in alloc; "salvaged {lines}\n")
 }
 
-// The same best, said to be that of so many lines of a journal.
+// A best with its solution, and with a line before its text that says of how many lines of a journal it is.
 fn salvaged(alloc: Global, best: BestOutput, lines: u32) -> Result<BestOutput, AllocError>
     ensures solution { IfOk result (λ o. o.solution.items ≡ best.solution.items) }
     ensures text { IfOk result (λ o. o.text.items ≡ salvaged_line lines ++ best.text.items) }

@@ -21,7 +21,7 @@ use ih_desk::Given;
 use ih_frame::Outcome;
 use ih_inputs::Inputs;
 use ih_journal::Options;
-use ih_parfill::begin;
+use ih_parfill::search_start;
 use ih_shelf::Gate;
 use ih_words::Solve;
 use std::alloc::{AllocError, Global};
@@ -79,7 +79,7 @@ fn search_from<R: Threads + Wait + Sync, G: Gate>(
     ensures { IfOk result (IsMade method (base_from (solve_call call.now) (given_of inputs))) }
 {
     let Options { hard, workers, .. } = call.options;
-    let begun = begin(rt, alloc, inputs, call.start.fill, hard, workers)?;
+    let begun = search_start(rt, alloc, inputs, call.start.fill, hard, workers)?;
     let given = Given {
         inst: &*begun.inst,
         start: &begun.start,

@@ -2,14 +2,14 @@
 
 ghost use Rattle.std.specs.Prelude.{◌≡◌, IfOk};
 ghost use Rattle.ih_top.specs.Texts.{journal_refused_text, reason_text, usage_text};
-ghost use Rattle.ih_answers.specs.{Answers.IsSaid, Texts.none_found_text};
+ghost use Rattle.ih_endings.specs.{Answers.IsSaid, Texts.none_found_text};
 
-use ih_answers::{Answer, Status, said};
+use ih_endings::{Answer, Status, said};
 use ih_journal::{JournalRefusal, Reason};
 use std::alloc::{AllocError, Global};
 
 /// The words name no call.
-#[tactic(auto, using(ih_answers::proofs::Saying::said_by), unfolding(crate::specs::Texts::usage_text))]
+#[tactic(auto, using(ih_endings::proofs::Saying::said_by), unfolding(crate::specs::Texts::usage_text))]
 pub fn usage(alloc: Global) -> Answer
     ensures { IsSaid Status.Usage usage_text result }
 {

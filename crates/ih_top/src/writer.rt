@@ -7,7 +7,7 @@ ghost use Rattle.ih_top.specs.Outputs.{search_outcome};
 
 use crate::output::Output;
 use crate::texts::none_found_text;
-use ih_answers::{Role, Status};
+use ih_endings::{Role, Status};
 use ih_frame::{Outcome, Writing};
 use ih_words::Solve;
 use std::alloc::{AllocError, Global};

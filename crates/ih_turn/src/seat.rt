@@ -11,8 +11,8 @@ use atomic_table::Seat as Token;
 pub struct Seat<B: Kept> {
     // The seat's right to step on the table, which carries what the seat knows.
     pub(crate) token: Token<Option<B>, View<B::Entry, B::Base>>,
-    // The same of that in numbers: the seat's own, how many entries it has seen, how many of those it made since the
-    // turn was made, and how many turns it has left.
+    // What the seat knows, in numbers: its own number, how many entries it has seen, how many of those it made since
+    // the turn was made, and how many turns it has left.
     pub(crate) number: u32,
     pub(crate) seen: u64,
     pub(crate) made: u64,

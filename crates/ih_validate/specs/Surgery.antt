@@ -60,7 +60,7 @@ limit_of I (OfSurgeon s) d = surgeon_maximum I s.0 d
 unfoldable pub overtime_of : Draft → Timetable → Resource → ℕ
 overtime_of I P w = sum_below I.days (λ d. minutes I (operated_on I P w d) - limit_of I w d)
 
--- the same of all theatres, or of all surgeons
+-- the minutes of surgery above the limit of each day, of all theatres or of all surgeons
 abbrev pub overtime : Draft → Timetable → ResourceKind → ℕ
 overtime I P Theatres = theatre_overtime I P
 overtime I P Surgeons = surgeon_overtime I P

@@ -17,7 +17,8 @@ abbrev pub search_app : Text → App
 search_app name = with_options (with_rule (with_rule (with_rule (new_app name)
     (named (codes "INSTANCE"))) (named (codes "OUT"))) (named (codes "JOURNAL")))
 
--- the same with [--retries N] [--start F] [--freeze DAY] [--fill]
+-- solve INSTANCE OUT JOURNAL --seed N --workers N --moves N --heat N --hard N [--retries N] [--start F]
+-- [--freeze DAY] [--fill]
 unfoldable pub solve_app : App
 solve_app = with_start (with_rule (search_app (codes "solve")) (optional_number (codes "retries") MAX_RETRIES))
 

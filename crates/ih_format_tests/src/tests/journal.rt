@@ -27,7 +27,7 @@ const RETRYING: Options = Options {
 // The first entry of a search on the ward of one day.
 const FIRST_LINE: &str = "0 0 0 0 nurserun:0,0,0,5 0,0,0,0,0,0,0,0,-3,0,1,1,0,0,0,0,0 accepted";
 
-// Whether the entry has each field of that line.
+// Whether the entry has each field of `FIRST_LINE`.
 fn is_first(entry: &Entry) -> bool {
     (entry.worker, entry.number, entry.again, entry.seen) == (0, 0, 0, 0)
         && entry.mv == Move::NurseRun(NurseNo(0), RoomNo(0), Day(0), 5)
@@ -36,7 +36,7 @@ fn is_first(entry: &Entry) -> bool {
         && entry.verdict == Verdict::Accepted
 }
 
-// Both headings, that line, and a move.
+// The headings without and with retries, the first line of a search on the ward, and a move.
 const WRITTEN: &str = "ihjournal 1 seed=0 workers=1 moves=2 heat=0 hard=1000
 ihjournal 2 seed=0 workers=1 moves=2 heat=0 hard=1000 retries=1
 0 0 0 0 nurserun:0,0,0,5 0,0,0,0,0,0,0,0,-3,0,1,1,0,0,0,0,0 accepted
@@ -60,8 +60,8 @@ fn is_written(alloc: Global, entry: &Entry) -> bool
     is_first(entry) && write_all(entry, &mut out).is_ok() && out.as_slice() == WRITTEN.as_bytes()
 }
 
-// Texts that are no lines, and the first field of each that is wrong: that line with a double space, and with an eighth
-// field; then others.
+// Texts that are no lines, and the first field of each that is wrong: `FIRST_LINE` with a double space, and with an
+// eighth field; then others.
 const NO_LINES: &str = "
 0  0 0 0 nurserun:0,0,0,5 0,0,0,0,0,0,0,0,-3,0,1,1,0,0,0,0,0 accepted | 2
 0 0 0 0 nurserun:0,0,0,5 0,0,0,0,0,0,0,0,-3,0,1,1,0,0,0,0,0 accepted 0 | 8
@@ -77,7 +77,7 @@ const NO_LINES: &str = "
 0 0 0 0 idle 0,0,0,0,0,0,0,0,0,0,0,0,0,0,0,0,0 accepted  | 8
 ";
 
-// The same of a journal with retries.
+// Texts that are no lines of a journal with retries, and the first field of each that is wrong.
 const NO_TRIES: &str = "
 0 0 0 x 0 idle | 4
 0 0 0 8 0 idle 0,0,0,0,0,0,0,0,0,0,0,0,0,0,0,0,0 accept | 8

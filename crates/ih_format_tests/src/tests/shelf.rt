@@ -110,7 +110,8 @@ fn is_whole<R: Files, S: Shelf>(
         && is_too_long(rt, alloc, shelf, name, limit.saturating_sub(1))
 }
 
-// The same of over a million bytes, which are read in many pieces.
+// Whether over a million bytes, read in many pieces, come back where as many are allowed, and are too long where one
+// less is.
 fn is_long<R: Files, S: Shelf>(rt: &R, alloc: Global, shelf: &mut S, name: &str) -> bool {
     match vec![in alloc; 7u8; 1_100_000] {
         Ok(bytes) => is_whole(rt, alloc, shelf, name, bytes.as_slice()),

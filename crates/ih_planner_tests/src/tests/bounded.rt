@@ -1,7 +1,7 @@
 //! Whole calls of improve that tell what no plan costs less than.
 
 use crate::tests::program::{goes, goes_by};
-use ih_planning::TestWatch;
+use ih_commands::TestWatch;
 
 // The bound of the two patients is 56, their least cost 70, and 95 where the first day may not change. It stands before the
 // first line, in one put with it. Of the ward the bound is the cost itself.

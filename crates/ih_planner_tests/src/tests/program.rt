@@ -1,7 +1,7 @@
 //! The program whose calls are tried.
 
-use ih_answers::Status;
-use ih_planning::{TestWatch, run_planner};
+use ih_commands::{TestWatch, run_planner};
+use ih_endings::Status;
 use ih_scripts::{TestGate, first_wrong};
 use ih_shelf::{MemShelf, MemSink};
 use std::alloc::Global;
@@ -28,7 +28,8 @@ pub fn goes<R: Files + Print + Threads + Wait + Abort + Sync>(rt: &R, alloc: Glo
     goes_by(rt, alloc, TestWatch::every(100_000), script);
 }
 
-/// The same, where each call has this watch.
+/// Tries a script, from no files on, where each call has this watch. The first event that doesn't come out so ends
+/// the test, which then names it.
 pub fn goes_by<R: Files + Print + Threads + Wait + Abort + Sync>(
     rt: &R,
     alloc: Global,

@@ -1,7 +1,7 @@
 //! Whole calls of improve by the clock, over files in memory and a watch that is told what to say.
 
 use crate::tests::program::goes_by;
-use ih_planning::TestWatch;
+use ih_commands::TestWatch;
 
 // A round has a fortieth of the time, by the rate of the one before; the watch says that each takes a second. Then the
 // same with all options left out but the start, as far as a test can be without the number of processors.
@@ -77,7 +77,7 @@ report 0 0 0 0 0 0 0 0 0, 0 1 1 0 0 0 0 0, 12
 = covered
 ";
 
-// The same after the second, of which no time is known.
+// The search ends after the second round, of which no time is known, and its best is written.
 const TWO_ROUNDS: &str = "
 > lay ward uncovered
 > says 0 improve i o --seconds 10 --seed 0 --workers 1 --hot 0 --cold 0 --empty

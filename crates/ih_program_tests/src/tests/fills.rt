@@ -29,7 +29,7 @@ fn is_the_fill(alloc: Global, inst: &Instance, filled: &Plan) -> bool
     }
 }
 
-// Whether so many workers fill an empty timetable so, past a gate.
+// Whether so many workers make the fill of an empty timetable, past a gate.
 fn is_filled<R: Threads + Wait + Sync, G: Gate>(
     rt: &R,
     alloc: Global,
@@ -48,8 +48,8 @@ fn is_filled<R: Threads + Wait + Sync, G: Gate>(
     }
 }
 
-// The same in each of three ways: by 1, 2 and 64 workers. Both theatres are as cheap for the mandatory patient, and lie
-// in the shares of two workers: the first wins, whoever finds it.
+// Whether 1, 2 and 64 workers each make the fill. Both theatres are as cheap for the mandatory patient, and lie in
+// the shares of two workers: the first wins, whoever finds it.
 fn all_fill<R: Threads + Wait + Sync>(rt: &R, alloc: Global, inst: &Instance, empty: &Plan) -> bool
     requires { IsPlanOf inst.now.draft empty.now }
 {

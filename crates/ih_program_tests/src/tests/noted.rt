@@ -98,7 +98,7 @@ fn are_in_order(answers: &[Vec<Entry>]) -> bool {
     answers.len() == 2 && has_move(answers.first(), &FIRST) && has_move(answers.get(1), &SECOND)
 }
 
-// Whether they do, and both answers are noted.
+// Whether two rounds come out as expected from a start, and their histories are noted in order.
 fn are_noted<R: Threads + Wait + Sync>(rt: &R, alloc: Global, inst: &Instance, start: &Plan) -> bool
     requires { IsPlanOf inst.now.draft start.now }
 {
@@ -106,7 +106,7 @@ fn are_noted<R: Threads + Wait + Sync>(rt: &R, alloc: Global, inst: &Instance, s
     come_out(rt, alloc, inst, start, &mut noted) && are_in_order(noted.answers())
 }
 
-// The same from the empty timetable.
+// Whether two rounds come out as expected from the empty timetable, and their histories are noted in order.
 fn are_noted_from_empty<R: Threads + Wait + Sync>(rt: &R, alloc: Global, inst: &Instance) -> bool {
     match Plan::empty(alloc, inst) {
         Ok(start) => are_noted(rt, alloc, inst, &start),
@@ -114,7 +114,7 @@ fn are_noted_from_empty<R: Threads + Wait + Sync>(rt: &R, alloc: Global, inst: &
     }
 }
 
-// The same on the ward.
+// Whether two rounds come out as expected from the empty ward, and their histories are noted in order.
 fn are_noted_on_ward<R: Threads + Wait + Sync>(rt: &R, alloc: Global) -> bool {
     match read_instance(alloc, WARD.as_bytes()) {
         Ok(inst) => are_noted_from_empty(rt, alloc, &inst),

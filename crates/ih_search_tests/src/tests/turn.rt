@@ -215,7 +215,7 @@ fn two_leave_theirs<R: Threads + Wait + Sync>(
     }
 }
 
-// The same of two new seats with so many turns.
+// Whether two new seats with so many turns leave what they are to, in threads of their own or one after the other.
 fn new_two_leave_theirs<R: Threads + Wait + Sync>(
     rt: &R,
     alloc: Global,

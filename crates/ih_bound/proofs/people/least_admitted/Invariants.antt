@@ -7,5 +7,5 @@ abbrev pub invariant-loop-a : goal.invariant-loop-a
 invariant-loop-a l = record {
   no_more : l.least ≤ l.most;
   admitted : BoundsAdmitted l.inst.draft l.rates (tariff_of l.inst.draft l.rates l.prices) l.patient.0 (IsBefore l.a) l.least;
-  tried : IsTried l.inst.draft l.rates (tariff_of l.inst.draft l.rates l.prices) l.patient.0 l.end l.hint l.least;
+  tried : IsTried l.inst.draft l.rates (tariff_of l.inst.draft l.rates l.prices) l.patient.0 l.end l.case.hint l.least;
 }

@@ -30,10 +30,7 @@ returns-clause-least c =
     let I = c.args.inst.now.draft in
     let F = c.args.scorer.now in
     let a = c.args.patient.now in
-    let last = c.loop-later-test.false in
-    let end = c.loop-later.auto.later-end in
-    let count = c.window_len-later-end.ensures.value in
-    let all : c.loop-later.later ≡ window_len I a = omega (arith, last, end, count) in
+    let all : c.loop-later.later ≡ window_len I a = omega (arith, c.loop-later-test.false, c.loop-later.auto.later-end, c.window_len-later-end.ensures.value) in
     let f : ℕ → List Write = λ d. stays_on I c.args.patient_no a d (room_count I) in
     c.loop-later.invariant.least
     ∙ ap (λ ws. valued (stay_value F) (cheapest (stay_value F) c.args.before.write ws))

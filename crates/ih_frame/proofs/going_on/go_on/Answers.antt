@@ -1,10 +1,10 @@
 use Rattle.std.proofs.Common.{◌∙◌, ◌+◌, arith, refl, subst}
 use Rattle.std.specs.Prelude.{IfOk}
-use Rattle.ih_answers.specs.Answers.{HasShelfCause}
-use Rattle.ih_answers.specs.Ends.{Ends, Received}
-use Rattle.ih_answers.specs.Texts.{ReceivedPart}
-use Rattle.ih_answers.specs.declared.status.Status.{Status}
-use Rattle.ih_answers.proofs.Later.{cause-from}
+use Rattle.ih_endings.specs.Answers.{HasShelfCause}
+use Rattle.ih_endings.specs.Ends.{Ends, Received}
+use Rattle.ih_endings.specs.Texts.{ReceivedPart}
+use Rattle.ih_endings.specs.declared.status.Status.{Status}
+use Rattle.ih_endings.proofs.Later.{cause-from}
 use Rattle.ih_frame.specs.Ends.{MadeEnds}
 use Rattle.ih_frame.specs.Outcomes.{outcome_of}
 use Rattle.ih_frame.proofs.StepByStep.{done, ends, no-puts, puts-then, puts-within, stops, underway-begins, underway-next}

@@ -1,7 +1,7 @@
-use Rattle.ih_answers.specs.Answers.{HasShelfCause}
-use Rattle.ih_answers.specs.Ends.{Received}
-use Rattle.ih_answers.specs.Texts.{ReceivedPart}
-use Rattle.ih_answers.proofs.Saying.{ended}
+use Rattle.ih_endings.specs.Answers.{HasShelfCause}
+use Rattle.ih_endings.specs.Ends.{Received}
+use Rattle.ih_endings.specs.Texts.{ReceivedPart}
+use Rattle.ih_endings.proofs.Saying.{ended}
 use Rattle.ih_frame.specs.Ends.{MadeEnds}
 use Rattle.ih_frame.proofs.CommandEnds.{made-answerable}
 use Rattle.ih_frame.proofs.performing.finish.Goals as goal

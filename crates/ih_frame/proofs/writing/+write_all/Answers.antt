@@ -1,6 +1,6 @@
 use Rattle.std.proofs.Common.{List, ℕ, map, subst, sym}
 use Rattle.ih_shelf.specs.Outside.{IfTold, MayBeWritten}
-use Rattle.ih_answers.specs.Answers.{Answers}
+use Rattle.ih_endings.specs.Answers.{Answers}
 use Rattle.ih_frame.specs.declared.outcome.Writing.{Writing}
 use Rattle.ih_frame.specs.Outcomes.{IsStopped, writing_of}
 use Rattle.ih_frame.proofs.Leaving.{stops-first}

@@ -1,6 +1,6 @@
 use Rattle.std.proofs.Common.{◌≡◌, subst}
-use Rattle.ih_answers.specs.Answers.{HasShelfCause}
-use Rattle.ih_answers.proofs.Saying.{has-cause}
+use Rattle.ih_endings.specs.Answers.{HasShelfCause}
+use Rattle.ih_endings.proofs.Saying.{has-cause}
 use Rattle.ih_words.specs.Generate.{gen_call}
 use Rattle.ih_words.specs.Replay.{replay_call}
 use Rattle.ih_words.specs.Solve.{solve_call}

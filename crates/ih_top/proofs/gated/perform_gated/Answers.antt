@@ -1,4 +1,4 @@
-use Rattle.ih_answers.proofs.Saying.{ended}
+use Rattle.ih_endings.proofs.Saying.{ended}
 use Rattle.ih_frame.proofs.CommandEnds.{command-answerable}
 use Rattle.ih_top.specs.Methods.{comes_to, gated_inputs}
 use Rattle.ih_top.proofs.gated.perform_gated.Goals as goal

@@ -1,0 +1,85 @@
+-- The settings that the words of improve give.
+use Rattle.std.proofs.Common.{◌≡◌, ◌∙◌, ◌≤◌, ℕ, refl, sym, ap, subst, arith, Bool, true, false, List, Option, Some, None}
+use Rattle.std.specs.Prelude.{◌&&◌, IfSome, if◌then◌else◌, unwrap_or, codes}
+use Rattle.clap.specs.Words.{Row}
+use Rattle.ih_plan.specs.declared.limits.TheConstants.{MAX_HARD, MAX_HEAT, MAX_WORKERS}
+use Rattle.ih_arguments.specs.Matches.{IsNumberIfGiven, number_if_given}
+use Rattle.ih_arguments.specs.Start.{freezes_a_file, takes_a_file}
+use Rattle.ih_arguments.proofs.Getters.{number_if_given-within}
+use Rattle.ih_improve.specs.declared.settings.TheConstants.{MAX_KEEP}
+use Rattle.ih_commands.specs.Calls.Improve.{HasImprove, ImproveCall, IsLawfulCall, are_options_apart, are_settings_lawful, are_names_apart, default_rounds, improve_in, keep_in, lawful_improve, length_in}
+use Rattle.ih_commands.specs.Pacing.{attempts_of}
+use Rattle.ih_commands.specs.declared.pacing.Length.{Length}
+use Rattle.ih_commands.specs.declared.pacing.Length.TheVariants.{Attempts, Seconds}
+use Rattle.ih_commands.specs.declared.pacing.TheConstants.{MAX_CALL_ATTEMPTS, MAX_CALL_ROUNDS}
+
+pub default-within : (low high d : ℕ) (o : Option ℕ) → low ≤ d → d ≤ high → IfSome o (λ n. (low ≤ n) × (n ≤ high))
+    → (low ≤ unwrap_or o d) × (unwrap_or o d ≤ high)
+default-within low high d None least most h = (least, most)
+default-within low high d (Some n) least most h = h
+
+-- there are as many rounds as may be where no number is given
+rounds-within : (l : Length) → (1 ≤ default_rounds l) × (default_rounds l ≤ MAX_CALL_ROUNDS)
+rounds-within (Attempts n) = (omega arith, omega arith)
+rounds-within (Seconds s) = (omega arith, omega arith)
+
+-- the attempts are so few, and the heat doesn't rise
+abbrev pub AreFew : ImproveCall → Type 0
+AreFew c = (attempts_of c.pace.length ≤ MAX_CALL_ATTEMPTS) × (unwrap_or c.settings.cold 0 ≤ unwrap_or c.settings.hot MAX_HEAT)
+
+-- what a change weighs is within its limits
+keep-within : (rows : List Row) → IsNumberIfGiven 0 MAX_KEEP (codes "keep") rows → unwrap_or (keep_in rows) 0 ≤ MAX_KEEP
+keep-within rows has = by_case (takes_a_file rows)
+  where
+    by_case : (b : Bool) → unwrap_or (if b then number_if_given (codes "keep") rows else Some 0) 0 ≤ MAX_KEEP
+    by_case true =
+        (default-within 0 MAX_KEEP 0 (number_if_given (codes "keep") rows) (omega arith) (omega arith)
+        (number_if_given-within 0 MAX_KEEP (codes "keep") rows has)).1
+    by_case false = omega arith
+
+-- the other limits are those of clap's rules
+pub settings-lawful : (rows : List Row) → HasImprove rows → AreFew (improve_in rows) → IsLawfulCall (improve_in rows)
+settings-lawful rows has few =
+    let workers = default-within 1 MAX_WORKERS MAX_WORKERS (number_if_given (codes "workers") rows) (omega arith) (omega arith)
+    (number_if_given-within 1 MAX_WORKERS (codes "workers") rows has.workers) in
+    let usual = rounds-within (length_in rows) in
+    let rounds = default-within 1 MAX_CALL_ROUNDS (default_rounds (length_in rows)) (number_if_given (codes "rounds") rows) usual.0 usual.1
+    (number_if_given-within 1 MAX_CALL_ROUNDS (codes "rounds") rows has.rounds) in
+    let hot = default-within 0 MAX_HEAT MAX_HEAT (number_if_given (codes "hot") rows) (omega arith) (omega arith)
+    (number_if_given-within 0 MAX_HEAT (codes "hot") rows has.hot) in
+    let hard = default-within 0 MAX_HARD MAX_HARD (number_if_given (codes "hard") rows) (omega arith) (omega arith)
+    (number_if_given-within 0 MAX_HARD (codes "hard") rows has.hard) in
+    record {
+      settings = record { some_worker = workers.0; workers = workers.1; hot = hot.1; cold = few.1; hard = hard.1; keep = keep-within rows has.keep };
+      pace = record { some = rounds.0; rounds = rounds.1; attempts = few.0 };
+    }
+
+-- ---- the call that clap's matches give
+
+pub call-lawful : (rows : List Row) → HasImprove rows → (c : ImproveCall) → c ≡ improve_in rows → AreFew c → IsLawfulCall c
+call-lawful rows has c is = subst (λ (x : ImproveCall). AreFew x → IsLawfulCall x) (sym is) (settings-lawful rows has)
+
+-- ---- where it is lawful
+
+if-true : {A : Type 0} (b : Bool) (x y : A) → b ≡ true → (if b then x else y) ≡ x
+if-true b x y is = subst (λ (t : Bool). (if t then x else y) ≡ x) (sym is) refl
+
+if-false : {A : Type 0} (b : Bool) (x y : A) → b ≡ false → (if b then x else y) ≡ y
+if-false b x y is = subst (λ (t : Bool). (if t then x else y) ≡ y) (sym is) refl
+
+-- the tests of a call's values
+abbrev pub are_values_lawful : List Row → ImproveCall → Bool
+are_values_lawful rows c =
+    freezes_a_file rows && (are_options_apart rows && (are_names_apart c && are_settings_lawful c))
+
+module _ (rows : List Row) (c : ImproveCall) (is : c ≡ improve_in rows) where
+  pub lawful-call : are_values_lawful rows c ≡ true → Some c ≡ lawful_improve rows
+  lawful-call works =
+      ap (λ (x : ImproveCall). Some x) is
+      ∙ sym (if-true (are_values_lawful rows (improve_in rows)) (Some (improve_in rows)) None
+      (subst (λ (x : ImproveCall). are_values_lawful rows x ≡ true) is works))
+
+  pub unlawful-call : are_values_lawful rows c ≡ false → None ≡ lawful_improve rows
+  unlawful-call fails =
+      sym (if-false (are_values_lawful rows (improve_in rows)) (Some (improve_in rows)) None
+      (subst (λ (x : ImproveCall). are_values_lawful rows x ≡ false) is fails))

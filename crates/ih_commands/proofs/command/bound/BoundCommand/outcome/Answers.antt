@@ -1,0 +1,28 @@
+use Rattle.std.proofs.Common.{◌≡◌, ◌∙◌, ap, ap₂, subst, Option}
+use Rattle.ih_tables.specs.declared.drafts.Draft.{Draft}
+use Rattle.ih_bound.specs.Bounds.{HoldsOfAll}
+use Rattle.ih_frame.specs.Outcomes.{says}
+use Rattle.ih_bound.specs.Judging.{no_infeasibility}
+use Rattle.ih_bound.specs.Texts.{bound_text}
+use Rattle.ih_bound.specs.declared.judging.Judged.{Judged}
+use Rattle.ih_bound.proofs.HowFar.{gap-true}
+use Rattle.ih_commands.specs.Calls.Bound.{judged_status}
+use Rattle.ih_commands.proofs.command.bound.BoundCommand.outcome.Goals as goal
+
+pub returns-clause-comes : goal.returns-clause-comes
+returns-clause-comes g c =
+    let I = c.args.inputs.inst.value.draft in
+    let found = c.in_ok-found.found in
+    let same : c.deref.result.now.draft ≡ I = cc in
+    let holds = subst (λ (X : Draft). HoldsOfAll X found) same c.in_ok-found.ensures.holds in
+    let none = c.no_infeasibility.ensures ∙ ap (λ (j : Option Judged). no_infeasibility j found) c.judged_of-judged.ensures in
+    record {
+      outcome = found;
+      holds = holds;
+      parts = c.in_ok-found.ensures.parts;
+      rounds = c.in_ok-found.ensures.rounds;
+      gap = gap-true I c.args.inputs.plan found c.requires.plans.plan holds;
+      said = c.said.ensures.outcome
+          ∙ ap₂ says (c.judged_status-status.ensures.value ∙ ap judged_status none)
+          (c.in_ok-text.ensures ∙ ap (λ (j : Option Judged). bound_text j found) c.judged_of-judged.ensures);
+    }

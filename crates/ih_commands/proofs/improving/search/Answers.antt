@@ -1,0 +1,125 @@
+use Rattle.std.proofs.Common.{◌≡◌, ◌≤◌, ◌∙◌, ap, arith, false, map, refl, subst, sym, true, ℕ, List, None, Some}
+use Rattle.clap.specs.Words.{Text}
+use Rattle.ih_tables.specs.declared.drafts.Draft.{Draft}
+use Rattle.ih_commands.specs.Pinning.{first_unknown}
+use Rattle.ih_inputs.specs.Reading.{HasGiven, InputFiles, given_of}
+use Rattle.ih_improve.specs.Legs.{Leaves}
+use Rattle.ih_endings.specs.Answers.{Answers, HasShelfCause}
+use Rattle.ih_endings.specs.Inputs.{EndsUnread}
+use Rattle.ih_endings.proofs.Files.{told-same}
+use Rattle.ih_frame.proofs.Begun.{begun-ended, unbegun-ended, unread-ended}
+use Rattle.ih_commands.specs.Calls.Improve.{improve_call, improve_inputs, reading}
+use Rattle.ih_commands.specs.Rounds.{IsRound, IsSearched}
+use Rattle.ih_commands.specs.Pacing.{IsLawfulPace, most_rounds, rounds_left}
+use Rattle.ih_commands.specs.declared.times.Times.{Times}
+use Rattle.ih_commands.specs.Searching.{IsLimit, IsSearch, task_of}
+use Rattle.ih_commands.specs.declared.pacing.Pace.{Pace}
+use Rattle.ih_commands.proofs.ImproveEnding.{nobody-ended}
+use Rattle.ih_commands.proofs.SameSearches.{rounds-few, search-ended, search-of}
+use Rattle.ih_commands.proofs.improving.search.Goals as goal
+
+pub returns-in-Err-clause-ends : goal.returns-in-Err-clause-ends
+returns-in-Err-clause-ends g c =
+    let call = reading c.args.is_found (improve_call c.args.call.now) in
+    let old = c.args.shelf.now in
+    let new = c.read_or_answer.new.shelf in
+    let names = g.S.Shelf.names old in
+    let unread = subst (λ (f : InputFiles). Answers (EndsUnread names f) c.in-Err.answer) c.names_of.ensures c.in-Err.ensures.unread in
+    search-ended call None None names (g.S.Shelf.names new) (HasShelfCause g.S.Shelf old new) _ _ c.conclude.result
+    (unread-ended (IsSearch names call None None) (IsRound Leaves (task_of call None None)) (IsSearched (task_of call None None)) (most_rounds call.pace.length call.pace.rounds)
+    (improve_inputs call) names (g.S.Shelf.names new) _ _ (told-same names (g.S.Shelf.names new) c.in-Err.ensures.only.kept) (HasShelfCause g.S.Shelf old new)
+    c.in-Err.answer unread c.conclude.result c.in-Err.ensures.cause c.conclude.ensures.said)
+
+pub go_on-requires-sync-R : goal.go_on-requires-sync-R
+go_on-requires-sync-R g c κs within =
+    let s = c.in-Ok-search_from.ensures in
+    let search = c.in-Ok-search_from.search in
+    let call = improve_call c.args.call.now in (
+      c.type_bounds.sync-R,
+      (
+        (refl, tt),
+        (
+          (
+            s.instance,
+            subst IsLawfulPace (sym s.pace) c.requires.pace,
+            λ over. absurd (let no : false ≡ true = sym c.begin-times.ensures ∙ (ap (λ (t : Times). t.is_over) (sym s.times) ∙ over) in cc),
+            s.held_plan,
+          ),
+          subst (λ (n : ℕ). rounds_left search.pace.length search.pace.rounds search.times.is_over search.improver.rounds ≤ n) (sym c.most_rounds.ensures)
+              (subst (λ (p : Pace). rounds_left search.pace.length search.pace.rounds search.times.is_over search.improver.rounds ≤ most_rounds p.length p.rounds)
+              s.pace (rounds-few search.pace.length search.pace.rounds search.times.is_over search.improver.rounds)),
+        ),
+      ),
+    )
+
+pub returns-in-Ok-search_from-clause-ends : goal.returns-in-Ok-search_from-clause-ends
+returns-in-Ok-search_from-clause-ends g c =
+    let call = reading c.args.is_found (improve_call c.args.call.now) in
+    let old = c.args.shelf.now in
+    let mid = c.read_or_answer.new.shelf in
+    let new = c.go_on.new.shelf in
+    let only = c.in-Ok.ensures.only in
+    let same = only.other_count in
+    let search = c.in-Ok-search_from.search in
+    let bound = c.in-Ok-limit_of.bound in
+    let read = subst (λ (f : InputFiles). HasGiven (g.S.Shelf.names old) f (given_of c.in-Ok.inputs)) c.names_of.ensures c.in-Ok.ensures.read in
+    let same_instance : c.deref-2.result.now.draft ≡ c.in-Ok.inputs.inst.value.draft = cc in
+    let limit = subst (λ (X : Draft). IsLimit call.is_bounded X bound) same_instance c.in-Ok-limit_of.ensures in
+    let is = search-of (g.S.Shelf.names old) c.args.is_found (improve_call c.args.call.now) (given_of c.in-Ok.inputs) bound search.improver read limit c.in-Ok-search_from.ensures.search in
+    let held = c.in-Ok.inputs.older in
+    search-ended call held bound (g.S.Shelf.names old) (g.S.Shelf.names new) (HasShelfCause g.S.Shelf old new) _ _ c.go_on.result
+    (begun-ended (IsSearch (g.S.Shelf.names old) call held bound) (IsRound Leaves (task_of call held bound)) (IsSearched (task_of call held bound))
+    (most_rounds call.pace.length call.pace.rounds) (improve_inputs call) (g.S.Shelf.names old) (g.S.Shelf.names new) _ _ (g.S.Shelf.names mid) only.kept
+    search.improver is (g.S.Shelf.read_faults old) (g.S.Shelf.read_faults mid) (g.S.Shelf.read_faults new) (g.S.Shelf.write_faults old)
+    (g.S.Shelf.write_faults mid) (g.S.Shelf.write_faults new) only.count (omega (arith, same)) c.go_on.result
+    (rw (
+      ap (λ t. t.now) c.in-Ok-search_from.ensures.out,
+      c.in-Ok-search_from.ensures.held,
+      c.in-Ok-search_from.ensures.draft,
+      c.in-Ok-search_from.ensures.bound,
+      c.in-Ok-search_from.ensures.pace,
+      c.most_rounds.ensures,
+    ) at c.go_on.ensures.ends))
+
+pub returns-in_default-limit_of-clause-ends : goal.returns-in_default-limit_of-clause-ends
+returns-in_default-limit_of-clause-ends g c =
+    let call = reading c.args.is_found (improve_call c.args.call.now) in
+    let old = c.args.shelf.now in
+    let new = c.read_or_answer.new.shelf in
+    let names = g.S.Shelf.names old in
+    search-ended call None None names (g.S.Shelf.names new) (HasShelfCause g.S.Shelf old new) _ _ c.conclude_memory.result
+    (unbegun-ended (IsSearch names call None None) (IsRound Leaves (task_of call None None)) (IsSearched (task_of call None None))
+    (most_rounds call.pace.length call.pace.rounds) (improve_inputs call) names (g.S.Shelf.names new) _ _
+    (told-same names (g.S.Shelf.names new) c.in-Ok.ensures.only.kept) (HasShelfCause g.S.Shelf old new) tt c.conclude_memory.ensures.said
+    c.conclude_memory.result c.conclude_memory.ensures.status)
+
+pub returns-clause-ends : goal.returns-clause-ends
+returns-clause-ends g c =
+    let call = reading c.args.is_found (improve_call c.args.call.now) in
+    let old = c.args.shelf.now in
+    let new = c.read_or_answer.new.shelf in
+    let names = g.S.Shelf.names old in
+    search-ended call None None names (g.S.Shelf.names new) (HasShelfCause g.S.Shelf old new) _ _ c.conclude_memory-in-Err-search_from.result
+    (unbegun-ended (IsSearch names call None None) (IsRound Leaves (task_of call None None)) (IsSearched (task_of call None None))
+    (most_rounds call.pace.length call.pace.rounds) (improve_inputs call) names (g.S.Shelf.names new) _ _
+    (told-same names (g.S.Shelf.names new) c.in-Ok.ensures.only.kept) (HasShelfCause g.S.Shelf old new) tt c.conclude_memory-in-Err-search_from.ensures.said
+    c.conclude_memory-in-Err-search_from.result c.conclude_memory-in-Err-search_from.ensures.status)
+
+pub returns-in-Some-clause-ends : goal.returns-in-Some-clause-ends
+returns-in-Some-clause-ends g c =
+    let call = reading c.args.is_found (improve_call c.args.call.now) in
+    let old = c.args.shelf.now in
+    let new = c.read_or_answer.new.shelf in
+    let names = g.S.Shelf.names old in
+    let read = subst (λ (f : InputFiles). HasGiven names f (given_of c.in-Ok.inputs)) c.names_of.ensures c.in-Ok.ensures.read in
+    let given = given_of c.in-Ok.inputs in
+    let id = c.in-Some.id.now in
+    let same : c.deref.result.now.draft ≡ given.instance = cc in
+    let pins : map (λ t. t.now) c.as_slice.result.now ≡ call.pins = ap (map (λ t. t.now)) c.as_slice.ensures.value in
+    let found : first_unknown c.deref.result.now.draft (map (λ t. t.now) c.as_slice.result.now) ≡ Some id = sym (rw c.in-Some.is at c.first_unknown.ensures) in
+    let unknown : first_unknown given.instance call.pins ≡ Some id =
+    subst (λ (I : Draft). first_unknown I call.pins ≡ Some id) same
+    (subst (λ (ids : List Text). first_unknown c.deref.result.now.draft ids ≡ Some id) pins found) in
+    nobody-ended call names (g.S.Shelf.names new) (told-same names (g.S.Shelf.names new) c.in-Ok.ensures.only.kept) (HasShelfCause g.S.Shelf old new) _ _
+    given.instance given.plan read.inputs c.in-Some.id.now unknown c.pins_nobody.result c.pins_nobody.ensures tt tt c.conclude-in-Some.result
+    c.conclude-in-Some.ensures.said

@@ -1,0 +1,151 @@
+//! The command `bound`: its description for `clap`, its values and what it comes to.
+
+ghost use Rattle.std.specs.Prelude.{◌≡◌, IfOk, map, string_bytes};
+ghost use Rattle.clap.specs.Words.{found_of, rows_of};
+ghost use Rattle.ih_arguments.specs.Matches.{call_by};
+ghost use Rattle.ih_plan.specs.Timetable.{IsPlanOf};
+ghost use Rattle.ih_frame.specs.Outcomes.{IsOwnStatus};
+ghost use Rattle.ih_commands.specs.Calls.Bound.{HasBound, HasFewWorkers, IsBounded, bound_app, bound_call, bound_in};
+ghost use Rattle.ih_commands.specs.Calls.Bound.{bound_inputs, judged_status, judged_of, lawful_bound};
+ghost use Rattle.ih_arguments.specs.Explaining.{IsRead};
+
+use crate::command::common::INSTANCE;
+use clap::ArgMatches;
+use ih_arguments::argument;
+use ih_arguments::arguments::{Argument, Description, Kind};
+use ih_arguments::explaining::{NoCall, explained};
+use ih_arguments::matches::{matched, number_if_given, optional_text_of, text_of};
+use ih_bound::{Judged, bound, bound_text, judge, no_infeasibility};
+use ih_endings::Status;
+use ih_frame::Outcome;
+use ih_inputs::{InputNames, Inputs};
+use ih_plan::MAX_WORKERS;
+use std::alloc::{AllocError, Global};
+use std::sync::Wait;
+use std::thread::Threads;
+
+/// How often prices are tried at most where no number is given.
+pub const DEFAULT_BOUND_ROUNDS: u32 = 1500;
+/// No more often.
+pub const MAX_BOUND_ROUNDS: u32 = 1_000_000;
+/// How many workers there are where no number is given.
+pub const DEFAULT_BOUND_WORKERS: u32 = 4;
+
+/// `bound INSTANCE` with the solution and the options that it may have.
+#[derive(Clone, Copy, Debug)]
+pub struct Bound<'a> {
+    /// The name of the instance's file.
+    pub instance: &'a str,
+    /// The name of the solution's file.
+    pub solution: Option<&'a str>,
+    /// How often prices are tried at most.
+    pub rounds: u32,
+    /// How many workers look at patients side by side.
+    pub workers: u32,
+}
+
+/// `bound INSTANCE [SOLUTION] [--rounds N] [--workers N]`.
+pub const BOUND: Description<'static, 'static> = Description {
+    name: "bound",
+    about: "Says what no feasible timetable costs less than",
+    called: "ih_planner bound",
+    arguments: &[
+        INSTANCE,
+        argument!(
+            "SOLUTION",
+            Kind::OptionalNamed,
+            "The file of a solution, which is compared with the best"
+        ),
+        argument!(
+            "rounds",
+            Kind::OptionalNumber(1, MAX_BOUND_ROUNDS),
+            "How often prices are tried at most [default: 1500]"
+        ),
+        argument!(
+            "workers",
+            Kind::OptionalNumber(1, MAX_WORKERS),
+            "How many look at patients side by side [default: 4]"
+        ),
+    ],
+};
+
+// The values of `bound`.
+fn bound_in<'a>(matches: &ArgMatches<'a>) -> Bound<'a>
+    requires { HasBound (rows_of (found_of matches.now)) }
+    ensures value { bound_call result ≡ bound_in (rows_of (found_of matches.now)) }
+    ensures few { HasFewWorkers result }
+{
+    Bound {
+        instance: text_of(matches, "INSTANCE"),
+        solution: optional_text_of(matches, "SOLUTION"),
+        rounds: number_if_given(matches, "rounds").unwrap_or(DEFAULT_BOUND_ROUNDS),
+        workers: number_if_given(matches, "workers").unwrap_or(DEFAULT_BOUND_WORKERS),
+    }
+}
+
+// Reads the words of `bound`.
+pub(crate) fn read_bound<'a>(alloc: Global, words: &'a [String]) -> Result<Bound<'a>, NoCall>
+    ensures read { IsRead bound_call (call_by bound_app lawful_bound (map string_bytes words.entry.now)) bound_app
+        (map string_bytes words.entry.now) result }
+    ensures lawful { IfOk result HasFewWorkers }
+{
+    match matched(alloc, &BOUND, words) {
+        Ok(matches) => Ok(bound_in(&matches)),
+        Err(error) => Err(explained(alloc, error)),
+    }
+}
+
+// The timetable beside the bound, where a file is named for it.
+fn judged_of(call: &Bound<'_>, inputs: &Inputs) -> Option<Judged>
+    requires { IsPlanOf inputs.now.inst.value.draft inputs.now.plan }
+    ensures { result ≡ judged_of (bound_call call.now).solution inputs.now.inst.value.draft inputs.now.plan }
+{
+    match call.solution {
+        Some(_) => Some(judge(&*inputs.inst, &inputs.plan)),
+        None => None,
+    }
+}
+
+/// The status by whether nothing infeasible was found.
+pub(crate) fn judged_status(none: bool) -> Status
+    ensures value { result ≡ judged_status none }
+    ensures own { IsOwnStatus result }
+{
+    if none {
+        Status::Done
+    } else {
+        Status::Infeasible
+    }
+}
+
+impl<'b> ih_frame::Command for Bound<'b> {
+    ghost files = { λ b. bound_inputs (bound_call b) };
+
+    ghost is_lawful = { HasFewWorkers };
+
+    ghost comes_to = { λ b. IsBounded (bound_call b) };
+
+    fn names(&self) -> InputNames<'_> {
+        InputNames {
+            instance: self.instance,
+            solution: self.solution,
+            older: None,
+            journal: None,
+            next: None,
+            are_said: true,
+        }
+    }
+
+    fn outcome<'a, R: Threads + Wait + Sync>(
+        &'a self,
+        rt: &R,
+        alloc: Global,
+        inputs: Inputs,
+    ) -> Result<Outcome<'a>, AllocError> {
+        let judged = judged_of(self, &inputs);
+        let found = bound(rt, alloc, &*inputs.inst, self.rounds, self.workers)?;
+        let text = bound_text(alloc, &found, &judged)?;
+        let status = judged_status(no_infeasibility(&judged, &found));
+        Ok(Outcome::said(alloc, status, text))
+    }
+}

@@ -1,0 +1,152 @@
+//! The command `carry`: its description for `clap`, its values and what it comes to.
+
+ghost use Rattle.std.specs.Prelude.{◌≡◌, map, string_bytes};
+ghost use Rattle.clap.specs.Words.{found_of, rows_of};
+ghost use Rattle.ih_arguments.specs.{Distinct.all_differ, Explaining.IsRead, Matches.call_by};
+ghost use Rattle.ih_inputs.specs.Reading.{given_of};
+ghost use Rattle.ih_commands.specs.Calls.Carry.{HasCarry, IsCarriedOver, carry_app, carry_call, carry_files, carry_in};
+ghost use Rattle.ih_commands.specs.Calls.Carry.{carry_inputs, lawful_carry, next_ward};
+
+use clap::ArgMatches;
+use ih_arguments::argument;
+use ih_arguments::arguments::{Argument, Description, Kind};
+use ih_arguments::explaining::{NoCall, explained, refused};
+use ih_arguments::file_names::names_differ;
+use ih_arguments::matches::{matched, optional_u32_of, text_of};
+use ih_carry::{Handover, account, carry};
+use ih_endings::Role;
+use ih_frame::Outcome;
+use ih_inputs::{InputNames, Inputs};
+use ih_plan::MAX_FREEZE;
+use ih_solution::write_solution;
+use ih_tables::Instance;
+use std::alloc::{AllocError, Global};
+use std::sync::Wait;
+use std::thread::Threads;
+
+/// `carry OLD_WARD OLD_PLAN NEW_WARD NEW_PLAN [--days K]`.
+#[derive(Clone, Copy, Debug)]
+pub struct Carry<'a> {
+    /// The name of the ward's file.
+    pub ward: &'a str,
+    /// The name of the file of its plan.
+    pub plan: &'a str,
+    /// The name of the next ward's file.
+    pub next: &'a str,
+    /// The name of the file that the next ward's plan goes to.
+    pub out: &'a str,
+    /// The day of the ward that is day 0 of the next one.
+    pub days: u32,
+}
+
+/// `carry OLD_WARD OLD_PLAN NEW_WARD NEW_PLAN [--days K]`.
+pub const CARRY: Description<'static, 'static> = Description {
+    name: "carry",
+    about: "Carries a plan over to a ward that has changed",
+    called: "ih_planner carry",
+    arguments: &[
+        argument!("OLD_WARD", Kind::Named, "The file of the ward's instance"),
+        argument!("OLD_PLAN", Kind::Named, "The file of its solution"),
+        argument!(
+            "NEW_WARD",
+            Kind::Named,
+            "The file of the instance of the ward as it is now"
+        ),
+        argument!(
+            "NEW_PLAN",
+            Kind::Named,
+            "The file that the new ward's solution is written to"
+        ),
+        argument!(
+            "days",
+            Kind::OptionalNumber(0, MAX_FREEZE),
+            "The day of the old ward that is day 0 of the new one [default: 0]"
+        ),
+    ],
+};
+
+// The values of `carry`.
+fn carry_in<'a>(matches: &ArgMatches<'a>) -> Carry<'a>
+    requires { HasCarry (rows_of (found_of matches.now)) }
+    ensures { carry_call result ≡ carry_in (rows_of (found_of matches.now)) }
+{
+    Carry {
+        ward: text_of(matches, "OLD_WARD"),
+        plan: text_of(matches, "OLD_PLAN"),
+        next: text_of(matches, "NEW_WARD"),
+        out: text_of(matches, "NEW_PLAN"),
+        days: optional_u32_of(matches, "days"),
+    }
+}
+
+// The names of the files differ.
+fn files_differ(carry: &Carry) -> bool
+    ensures { result ≡ all_differ (carry_files (carry_call carry.now)) }
+{
+    names_differ(carry.ward, carry.plan, carry.next, Some(carry.out))
+}
+
+// Reads the words of `carry`.
+pub(crate) fn read_carry<'a>(alloc: Global, words: &'a [String]) -> Result<Carry<'a>, NoCall>
+    ensures { IsRead carry_call (call_by carry_app lawful_carry (map string_bytes words.entry.now)) carry_app
+        (map string_bytes words.entry.now) result }
+{
+    match matched(alloc, &CARRY, words) {
+        Ok(matches) => {
+            let carry = carry_in(&matches);
+            if files_differ(&carry) {
+                Ok(carry)
+            } else {
+                Err(refused(alloc, "two files of the call have one name"))
+            }
+        }
+        Err(error) => Err(explained(alloc, error)),
+    }
+}
+
+// The ward that the plan is carried over to.
+fn next_ward(inputs: &Inputs) -> &Instance
+    ensures { result.now.draft ≡ next_ward (given_of inputs.now) }
+{
+    match &inputs.next {
+        Some(next) => &**next,
+        None => &*inputs.inst,
+    }
+}
+
+impl<'c> ih_frame::Command for Carry<'c> {
+    ghost files = { λ c. carry_inputs (carry_call c) };
+
+    ghost is_lawful = { λ c. Unit {0} };
+
+    ghost comes_to = { λ c. IsCarriedOver (carry_call c) };
+
+    fn names(&self) -> InputNames<'_> {
+        InputNames {
+            instance: self.ward,
+            solution: Some(self.plan),
+            older: None,
+            journal: None,
+            next: Some(self.next),
+            are_said: true,
+        }
+    }
+
+    fn outcome<'a, R: Threads + Wait + Sync>(
+        &'a self,
+        _rt: &R,
+        alloc: Global,
+        inputs: Inputs,
+    ) -> Result<Outcome<'a>, AllocError> {
+        let handover = Handover {
+            ward: &*inputs.inst,
+            plan: &inputs.plan,
+            next: next_ward(&inputs),
+            days: self.days,
+        };
+        let plan = carry(alloc, &handover)?;
+        let bytes = write_solution(alloc, handover.next, &plan)?;
+        let text = account(alloc, &handover)?;
+        Outcome::written(alloc, Role::Out, self.out, bytes, text)
+    }
+}

@@ -1,0 +1,178 @@
+//! The command `table`: its description for `clap`, its values and what it comes to.
+
+ghost use Rattle.std.specs.Prelude.{◌≡◌, IfSome, codes, is_some, map, not, option_and_then, option_map, string_bytes};
+ghost use Rattle.clap.specs.Words.{first_of, found_of, rows_of};
+ghost use Rattle.jiff.specs.Words.{date_parts};
+ghost use Rattle.ih_arguments.specs.{Distinct.all_differ, Explaining.IsNoHelp, Explaining.IsRead, Matches.call_by};
+ghost use Rattle.ih_commands.specs.Calls.Days.{date_in};
+ghost use Rattle.ih_commands.specs.Calls.Table.{HasTableNames, IsTabled, has_table_words, lawful_table, subject_at};
+ghost use Rattle.ih_commands.specs.Calls.Table.{subject_in, table_app, table_call, table_files, table_in, table_inputs};
+
+use crate::command::common::{INSTANCE, SOLUTION};
+use crate::command::days::{FROM, first_day, no_day, refused_day};
+use clap::ArgMatches;
+use ih_arguments::argument;
+use ih_arguments::arguments::{Argument, Description, Kind};
+use ih_arguments::explaining::{NoCall, explained, refused};
+use ih_arguments::file_names::names_differ;
+use ih_arguments::matches::{matched, optional_text_of, text_of};
+use ih_endings::Role;
+use ih_frame::Outcome;
+use ih_inputs::{InputNames, Inputs};
+use ih_sheet::{Subject, table};
+use jiff::civil::Date;
+use std::alloc::{AllocError, Global};
+use std::sync::Wait;
+use std::thread::Threads;
+
+/// `table INSTANCE SOLUTION OUT [--from DATE] [--of SUBJECT]`.
+#[derive(Clone, Copy, Debug)]
+pub struct Table<'a> {
+    /// The name of the instance's file.
+    pub instance: &'a str,
+    /// The name of the solution's file.
+    pub solution: &'a str,
+    /// The name of the file that the table goes to.
+    pub out: &'a str,
+    /// The date of the first day.
+    pub from: Option<Date>,
+    /// What the rows are about.
+    pub of: Subject,
+}
+
+/// `table INSTANCE SOLUTION OUT [--from DATE] [--of SUBJECT]`.
+pub const TABLE: Description<'static, 'static> = Description {
+    name: "table",
+    about: "Writes a solution's timetable as a table for a spreadsheet",
+    called: "ih_planner table",
+    arguments: &[
+        INSTANCE,
+        SOLUTION,
+        argument!("OUT", Kind::Named, "The file that the table is written to"),
+        FROM,
+        argument!(
+            "of",
+            Kind::Optional,
+            "What the rows are about: patients, nurses, rooms or theatres [default: patients]"
+        ),
+    ],
+};
+
+// The subject that a word names.
+fn subject_in(word: &str) -> Option<Subject>
+    ensures { result ≡ subject_in word.now }
+{
+    match word {
+        "patients" => Some(Subject::Patients),
+        "nurses" => Some(Subject::Nurses),
+        "rooms" => Some(Subject::Rooms),
+        "theatres" => Some(Subject::Theatres),
+        _ => None,
+    }
+}
+
+// The subject that the word of `--of` names: patients, where there is no word.
+fn subject_of(matches: &ArgMatches) -> Option<Subject>
+    ensures { result ≡ subject_at (rows_of (found_of matches.now)) }
+{
+    match optional_text_of(matches, "of") {
+        None => Some(Subject::Patients),
+        Some(word) => subject_in(word),
+    }
+}
+
+// The values of `table`.
+fn table_in<'a>(matches: &ArgMatches<'a>) -> Table<'a>
+    requires { HasTableNames (rows_of (found_of matches.now)) }
+    ensures { table_call result ≡ table_in (rows_of (found_of matches.now)) }
+{
+    Table {
+        instance: text_of(matches, "INSTANCE"),
+        solution: text_of(matches, "SOLUTION"),
+        out: text_of(matches, "OUT"),
+        from: first_day(matches),
+        of: subject_of(matches).unwrap_or(Subject::Patients),
+    }
+}
+
+// The names of the files differ.
+fn files_differ(table: &Table) -> bool
+    ensures { result ≡ all_differ (table_files (table_call table.now)) }
+{
+    names_differ(table.instance, table.solution, table.out, None)
+}
+
+// What is said of a word that names no subject.
+fn refused_subject(alloc: Global, word: &str) -> NoCall
+    ensures { IsNoHelp result }
+{
+    match format!(in alloc; "'{word}' for '--of' is none of patients, nurses, rooms and theatres") {
+        Ok(fault) => refused(alloc, fault.as_str()),
+        Err(_) => NoCall::OutOfMemory,
+    }
+}
+
+// What is said of words that name no day or no subject, where they don't.
+fn refused_words(alloc: Global, matches: &ArgMatches, table: &Table) -> Option<NoCall>
+    requires { option_map date_parts table.now.from
+        ≡ option_and_then date_in (first_of (codes "from") (rows_of (found_of matches.now))) }
+    ensures none { not (is_some result) ≡ has_table_words (rows_of (found_of matches.now)) }
+    ensures said { IfSome result IsNoHelp }
+{
+    if let Some(word) = no_day(matches, &table.from) {
+        return Some(refused_day(alloc, word));
+    }
+    match subject_of(matches) {
+        Some(_) => None,
+        None => Some(refused_subject(alloc, text_of(matches, "of"))),
+    }
+}
+
+// Reads the words of `table`.
+pub(crate) fn read_table<'a>(alloc: Global, words: &'a [String]) -> Result<Table<'a>, NoCall>
+    ensures { IsRead table_call (call_by table_app lawful_table (map string_bytes words.entry.now)) table_app
+        (map string_bytes words.entry.now) result }
+{
+    match matched(alloc, &TABLE, words) {
+        Ok(matches) => {
+            let table = table_in(&matches);
+            if let Some(fault) = refused_words(alloc, &matches, &table) {
+                Err(fault)
+            } else if files_differ(&table) {
+                Ok(table)
+            } else {
+                Err(refused(alloc, "two files of the call have one name"))
+            }
+        }
+        Err(error) => Err(explained(alloc, error)),
+    }
+}
+
+impl<'t> ih_frame::Command for Table<'t> {
+    ghost files = { λ t. table_inputs (table_call t) };
+
+    ghost is_lawful = { λ t. Unit {0} };
+
+    ghost comes_to = { λ t. IsTabled (table_call t) };
+
+    fn names(&self) -> InputNames<'_> {
+        InputNames {
+            instance: self.instance,
+            solution: Some(self.solution),
+            older: None,
+            journal: None,
+            next: None,
+            are_said: true,
+        }
+    }
+
+    fn outcome<'a, R: Threads + Wait + Sync>(
+        &'a self,
+        _rt: &R,
+        alloc: Global,
+        inputs: Inputs,
+    ) -> Result<Outcome<'a>, AllocError> {
+        let bytes = table(alloc, self.of, &*inputs.inst, &inputs.plan, self.from)?;
+        Outcome::written(alloc, Role::Out, self.out, bytes, Vec::new(alloc))
+    }
+}

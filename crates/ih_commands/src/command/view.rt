@@ -1,0 +1,175 @@
+//! The command `view`: its description for `clap`, its values and what it comes to.
+
+ghost use Rattle.std.specs.Prelude.{◌≡◌, map, string_bytes};
+ghost use Rattle.clap.specs.Words.{found_of, rows_of};
+ghost use Rattle.ih_arguments.specs.{Distinct.all_differ, Explaining.IsRead, Matches.call_by};
+ghost use Rattle.ih_commands.specs.Calls.View.{HasViewNames, IsViewed, lawful_view, view_app, view_call, view_files};
+ghost use Rattle.ih_commands.specs.Calls.View.{view_in, view_inputs};
+
+use crate::command::common::{INSTANCE, SOLUTION};
+use crate::command::days::{FROM, first_day, no_day, refused_day};
+use clap::ArgMatches;
+use ih_arguments::argument;
+use ih_arguments::arguments::{Argument, Description, Kind};
+use ih_arguments::explaining::{NoCall, explained, refused};
+use ih_arguments::file_names::all_differ;
+use ih_arguments::matches::{matched, optional_text_of, text_of};
+use ih_endings::Role;
+use ih_frame::Outcome;
+use ih_inputs::{InputNames, Inputs};
+use ih_page::{Heading, page};
+use jiff::civil::Date;
+use std::alloc::{AllocError, Global};
+use std::sync::Wait;
+use std::thread::Threads;
+
+/// `view INSTANCE SOLUTION PAGE [--from DATE] [--since OLDER] [--title TEXT]`.
+#[derive(Clone, Copy, Debug)]
+pub struct View<'a> {
+    /// The name of the instance's file.
+    pub instance: &'a str,
+    /// The name of the solution's file.
+    pub solution: &'a str,
+    /// The name of the file that the page goes to.
+    pub page: &'a str,
+    /// The date of the first day.
+    pub from: Option<Date>,
+    /// The name of the older solution's file.
+    pub since: Option<&'a str>,
+    /// What stands over the page.
+    pub title: Option<&'a str>,
+}
+
+impl<'a> View<'a> {
+    ghost use Rattle.std.specs.Prelude.{◌≡◌};
+    ghost use Rattle.ih_page.specs.Page.{heading_texts};
+    ghost use Rattle.ih_commands.specs.Calls.View.{heading_of, view_call};
+
+    // What stands over the page: the instance's name, where there is no title.
+    fn heading(&self) -> Heading<'a>
+        ensures { heading_texts result ≡ heading_of (view_call self.now) }
+    {
+        let title = match self.title {
+            Some(title) => title,
+            None => self.instance,
+        };
+        Heading {
+            title,
+            instance: self.instance,
+            solution: self.solution,
+            older: self.since,
+        }
+    }
+}
+
+/// `view INSTANCE SOLUTION PAGE [--from DATE] [--since OLDER] [--title TEXT]`.
+pub const VIEW: Description<'static, 'static> = Description {
+    name: "view",
+    about: "Writes a solution's timetable as a page",
+    called: "ih_planner view",
+    arguments: &[
+        INSTANCE,
+        SOLUTION,
+        argument!("PAGE", Kind::Named, "The file that the page is written to"),
+        FROM,
+        argument!(
+            "since",
+            Kind::Optional,
+            "The file of an older solution: the page says what changed"
+        ),
+        argument!(
+            "title",
+            Kind::Optional,
+            "What stands over the page, in place of the instance's name"
+        ),
+    ],
+};
+
+// The values of `view`.
+fn view_in<'a>(matches: &ArgMatches<'a>) -> View<'a>
+    requires { HasViewNames (rows_of (found_of matches.now)) }
+    ensures { view_call result ≡ view_in (rows_of (found_of matches.now)) }
+{
+    View {
+        instance: text_of(matches, "INSTANCE"),
+        solution: text_of(matches, "SOLUTION"),
+        page: text_of(matches, "PAGE"),
+        from: first_day(matches),
+        since: optional_text_of(matches, "since"),
+        title: optional_text_of(matches, "title"),
+    }
+}
+
+// The names of the files differ.
+fn names_differ(view: &View) -> bool
+    ensures { result ≡ all_differ (view_files (view_call view.now)) }
+{
+    match view.since {
+        Some(since) => {
+            let names = [view.instance, view.solution, view.page, since];
+            all_differ(names.as_slice())
+        }
+        None => {
+            let names = [view.instance, view.solution, view.page];
+            all_differ(names.as_slice())
+        }
+    }
+}
+
+// Reads the words of `view`.
+pub(crate) fn read_view<'a>(alloc: Global, words: &'a [String]) -> Result<View<'a>, NoCall>
+    ensures { IsRead view_call (call_by view_app lawful_view (map string_bytes words.entry.now)) view_app
+        (map string_bytes words.entry.now) result }
+{
+    match matched(alloc, &VIEW, words) {
+        Ok(matches) => {
+            let view = view_in(&matches);
+            if let Some(word) = no_day(&matches, &view.from) {
+                Err(refused_day(alloc, word))
+            } else if names_differ(&view) {
+                Ok(view)
+            } else {
+                Err(refused(alloc, "two files of the call have one name"))
+            }
+        }
+        Err(error) => Err(explained(alloc, error)),
+    }
+}
+
+impl<'v> ih_frame::Command for View<'v> {
+    ghost files = { λ v. view_inputs (view_call v) };
+
+    ghost is_lawful = { λ v. Unit {0} };
+
+    ghost comes_to = { λ v. IsViewed (view_call v) };
+
+    fn names(&self) -> InputNames<'_> {
+        InputNames {
+            instance: self.instance,
+            solution: Some(self.solution),
+            older: self.since,
+            journal: None,
+            next: None,
+            are_said: true,
+        }
+    }
+
+    fn outcome<'a, R: Threads + Wait + Sync>(
+        &'a self,
+        _rt: &R,
+        alloc: Global,
+        inputs: Inputs,
+    ) -> Result<Outcome<'a>, AllocError> {
+        let older = inputs.older.as_ref();
+        let heading = self.heading();
+        let bytes = page(
+            alloc,
+            &heading,
+            &*inputs.inst,
+            &inputs.plan,
+            self.from,
+            older,
+        )?;
+        Outcome::written(alloc, Role::Out, self.page, bytes, Vec::new(alloc))
+    }
+}

@@ -1,0 +1,34 @@
+-- How any call ends: what the files then hold, what the sink received, and why a fault is answered.
+use Rattle.std.specs.Prelude.{◌≡◌, ℕ, ◌⊎◌, List, Option, Some, None}
+use Rattle.ih_shelf.specs.Outside.{IsAppended, MayBeAppended, Names, Rose, IfTold}
+use Rattle.ih_endings.specs.declared.status.Status.{Status}
+use Rattle.ih_endings.specs.declared.status.Status.TheVariants.{ReadFault, WriteFault, OutOfMemory}
+use Rattle.ih_endings.specs.Answers.{unsaid}
+
+-- each name has what it had
+abbrev pub Unchanged : Names → Names → Type 0
+Unchanged old new = (n : List ℕ) → new n ≡ old n
+
+-- The sink received the text whole; or a prefix of it, where its count of faults rose and the status isn't one that
+-- asks for the whole.
+abbrev pub Received : Status → Option (List ℕ) → Option (List ℕ) → ℕ → ℕ → List ℕ → Type 0
+Received status old new before now text =
+    IfTold (IsAppended text) old new
+    ⊎ ((unsaid status ≡ status) × Rose before now × IfTold (MayBeAppended text) old new)
+
+-- At each status the sink received the text that the call had to say there. The second case of `OutOfMemory` is the
+-- sink's own lack: it wanted memory, and received a part of the text of a status that the call had reached, with a
+-- cause for that one.
+abbrev pub Ends : (ends : Status → List ℕ → Type 0) → (cause : Status → Type 0) → (received part : List ℕ → Type 0)
+    → Status → Type 0
+Ends ends cause received part OutOfMemory =
+    ((text : List ℕ) × ends OutOfMemory text × received text)
+    ⊎ ((status : Status) × (text : List ℕ) × ends status text × cause status × part text)
+Ends ends cause received part status = (text : List ℕ) × ends status text × received text
+
+-- A fault is answered only where its count rose in the call, or stands at the last number of 64 bits.
+abbrev pub HasCause : ℕ → ℕ → ℕ → ℕ → ℕ → ℕ → Status → Type 0
+HasCause reads reads' writes writes' puts puts' (ReadFault role) = Rose reads reads'
+HasCause reads reads' writes writes' puts puts' (WriteFault (Some role)) = Rose writes writes'
+HasCause reads reads' writes writes' puts puts' (WriteFault None) = Rose puts puts'
+HasCause reads reads' writes writes' puts puts' status = Unit {0}

@@ -1,0 +1,64 @@
+//! What is said of two small instances after one change.
+
+use crate::tests::rows::none_is_wrong;
+use ih_fixtures::{TWO_PATIENTS, WARD, cut, put_changed};
+use ih_instance::read_instance;
+use ih_tables::Instance;
+use ih_why::account;
+use std::alloc::Global;
+
+// Whether what is said of an instance begins so.
+fn is_said_of(alloc: Global, inst: &Instance, wanted: &str) -> bool {
+    match account(alloc, inst) {
+        Ok(text) => match wanted {
+            "nothing" => text.is_empty(),
+            _ => text.as_slice().starts_with(wanted.as_bytes()),
+        },
+        Err(_) => false,
+    }
+}
+
+// Whether this is said after a change.
+fn is_said(alloc: Global, text: &str, old: &str, new: &str, wanted: &str) -> bool {
+    let mut file = String::new(alloc);
+    let changed = matches!(put_changed(&mut file, text, old, new), Ok(true));
+    match read_instance(alloc, file.as_bytes()) {
+        Ok(inst) => changed && is_said_of(alloc, &inst, wanted),
+        Err(_) => false,
+    }
+}
+
+// The first row that isn't so: what stands in a text, what is put in its place, and what is then said.
+fn first_wrong<'t>(alloc: Global, text: &str, table: &'t str) -> &'t str {
+    for row in table.trim().split('\n') {
+        let (old, rest) = cut(row, " | ");
+        let (new, wanted) = cut(rest, " | ");
+        if !is_said(alloc, text, old, new, wanted) {
+            return row;
+        }
+    }
+    ""
+}
+
+const PATIENTS: &str = r#"
+"surgery_due_day":1 | "surgery_due_day":0 | nothing
+"surgery_release_day":0,"surgery_due_day":1 | "surgery_release_day":1,"surgery_due_day":0 | p0 must be admitted, and is due before release
+"surgery_release_day":0,"surgery_due_day":1 | "surgery_release_day":2,"surgery_due_day":3 | p0 must be admitted, and is released after the last day
+["r1"] | ["r1","r0"] | p0 must be admitted, and no room suits
+"surgery_duration":60 | "surgery_duration":61 | p0 must be admitted, and no theatre is open for 61 minutes on any day from 0 to 1
+[100,100] | [50,59] | p0 must be admitted, and s0 has no 60 minutes on any day from 0 to 1
+"capacity":2 | "capacity":0 | p0 must be admitted, and on day 1 each room that suits is full or has another gender in it
+"#;
+
+const ROOMS: &str = r#"
+"capacity":2 | "capacity":1 | nothing
+"capacity":2 | "capacity":0 | r0 has more occupants than beds on day 0: 1 for 0
+"occupants":[ | "occupants":[{"id":"a1","gender":"B","age_group":"adult","length_of_stay":1,"workload_produced":[2,1,1],"skill_level_required":[1,0,2],"room_id":"r0"}, | r0 has occupants of two genders on day 0
+},{"day":0,"shift":"late","max_load":2} | } | nobody works on day 0, late, and r0 is occupied
+"#;
+
+#[test]
+fn each_change_has_its_reason(rt: HostRuntime) {
+    none_is_wrong(&rt, first_wrong(rt.alloc(), TWO_PATIENTS, PATIENTS));
+    none_is_wrong(&rt, first_wrong(rt.alloc(), WARD, ROOMS));
+}

@@ -1,0 +1,5 @@
+pub mod Beds
+pub mod Admissions
+pub mod Sentences
+pub mod Account
+pub mod Laws
