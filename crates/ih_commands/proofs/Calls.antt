@@ -24,7 +24,7 @@ use Rattle.ih_frame.specs.Steps.{BegunEnds}
 use Rattle.ih_frame.proofs.Complete.{accepted, command-answered, no-fault, reached, steps-answered}
 use Rattle.ih_frame.proofs.StepByStep.{one-within}
 use Rattle.ih_commands.specs.Calls.Bound.{judged_status}
-use Rattle.ih_commands.specs.Calls.{Call, IsAnswered, bound, carry, check, comes_to, improve, inputs_of, table, view}
+use Rattle.ih_commands.specs.Calls.{Call, IsAnswered, bound, carry, check, comes_to, improve, inputs_of, table, view, why}
 use Rattle.ih_commands.specs.Ends.{CallEnds, HasFewPuts, HasFiles, IsComplete, IsUntouched, Leaves, NoCallEnds}
 use Rattle.ih_commands.specs.Calls.Improve.{ImproveCall, improve_inputs, reading}
 use Rattle.ih_commands.specs.Pacing.{most_rounds}
@@ -92,6 +92,7 @@ answers (bound b) = record { outcomes = λ g o is. judged _ o.status (ap (λ (x 
 answers (check c) = record { outcomes = λ g o is. judged _ o.status (ap (λ (x : OutcomeState). x.status) is); memory = inr (inr refl) }
 answers (carry c) = record { outcomes = λ g o is. inl (ap (λ (x : OutcomeState). x.status) is.written); memory = inr refl }
 answers (table t) = record { outcomes = λ g o is. inl (ap (λ (x : OutcomeState). x.status) is.written); memory = inr refl }
+answers (why w) = record { outcomes = λ g o is. judged _ o.status (ap (λ (x : OutcomeState). x.status) is.said); memory = inr (inr refl) }
 
 -- each end of a call that no fault ended, and whose files are accepted, is an answer
 answered : (call : Call) (files : Names) (new : Option Names) → HasFiles call files → (status : Status) (text : List ℕ) → HasNoFault status
@@ -100,12 +101,12 @@ answered (improve c) files new (g, has) status text calm h = improved c files ne
 answered call files new (g, has) status text calm h =
     command-answered (comes_to call) (inputs_of call) files new (IsAnswered call) (answers call) g has status text calm h
 
-pub complete : (words : List Text) (call : Call) (old new : Option Names) (why : Status → Type 0) (received part : List ℕ → Type 0) (reads reads' writes writes' puts puts' : ℕ) (status : Status)
-    → Leaves words (Some call) old new why received part status → HasCause reads reads' writes writes' puts puts' status
+pub complete : (words : List Text) (call : Call) (old new : Option Names) (causes : Status → Type 0) (received part : List ℕ → Type 0) (reads reads' writes writes' puts puts' : ℕ) (status : Status)
+    → Leaves words (Some call) old new causes received part status → HasCause reads reads' writes writes' puts puts' status
     → IsComplete (Some call) old (Rose reads reads') (Rose writes writes') (Rose puts puts') status
-complete words call None new why received part reads reads' writes writes' puts puts' status ends cause = tt
-complete words call (Some files) new why received part reads reads' writes writes' puts puts' status ends cause = λ has calm kept heard.
-    reached (IsAnswered call) (CallEnds call (Some files) new) why received part (answers call).memory (answered call files new has) status
+complete words call None new causes received part reads reads' writes writes' puts puts' status ends cause = tt
+complete words call (Some files) new causes received part reads reads' writes writes' puts puts' status ends cause = λ has calm kept heard.
+    reached (IsAnswered call) (CallEnds call (Some files) new) causes received part (answers call).memory (answered call files new has) status
     (no-fault reads reads' writes writes' puts puts' calm kept heard status cause) ends
 
 -- ---- words that name no call
@@ -131,9 +132,9 @@ call-memory call files = inl (told-same files files refl, unread-memory files (i
 -- whatever call the words name, and also where they name none
 pub memory-leaves : (words : List Text) (call : Option Call) (files : Option Names) (cause : Status → Type 0) (received part : List ℕ → Type 0) → cause OutOfMemory
     → received memory_text ⊎ part memory_text → Leaves words call files files cause received part OutOfMemory
-memory-leaves words None files cause received part why h =
-    (told-same files files refl, memory-ended (NoCallEnds words) cause received part refl why h)
-memory-leaves words (Some call) files cause received part why h = memory-ended (CallEnds call files files) cause received part (call-memory call files) why h
+memory-leaves words None files cause received part caused h =
+    (told-same files files refl, memory-ended (NoCallEnds words) cause received part refl caused h)
+memory-leaves words (Some call) files cause received part caused h = memory-ended (CallEnds call files files) cause received part (call-memory call files) caused h
 
 pub memory-complete : (call : Option Call) (old : Option Names) (read wrote put : Type 0) → IsComplete call old read wrote put OutOfMemory
 memory-complete None old read wrote put = tt

@@ -1,6 +1,7 @@
 pub mod Calls
 pub mod FirstWord
 pub mod ImproveEnding
+pub mod NoPlan
 pub mod Promises
 pub mod RoundsTaken
 pub mod SameRounds

@@ -16,8 +16,9 @@ use Rattle.ih_commands.specs.Calls.Improve.{ImproveCall, IsLawfulCall, improve_a
 use Rattle.ih_commands.specs.Pinning.{unknown_patient}
 use Rattle.ih_commands.specs.Calls.Table.{IsTabled, TableCall, lawful_table, table_app, table_call, table_inputs}
 use Rattle.ih_commands.specs.Calls.View.{IsViewed, ViewCall, lawful_view, view_app, view_call, view_inputs}
+use Rattle.ih_commands.specs.Calls.Why.{IsExplained, WhyCall, lawful_why, why_app, why_call, why_inputs}
 use Rattle.ih_commands.specs.declared.command.Command.{Command}
-use Rattle.ih_commands.specs.declared.command.Command.TheVariants.{Bound as BoundCommand, Carry as CarryCommand, Check as CheckCommand, Improve as ImproveCommand, Table as TableCommand, View as ViewCommand}
+use Rattle.ih_commands.specs.declared.command.Command.TheVariants.{Bound as BoundCommand, Carry as CarryCommand, Check as CheckCommand, Improve as ImproveCommand, Table as TableCommand, View as ViewCommand, Why as WhyCommand}
 pub mod Bound
 pub mod Carry
 pub mod Check
@@ -25,6 +26,7 @@ pub mod Days
 pub mod Improve
 pub mod Table
 pub mod View
+pub mod Why
 
 -- a call of one of the commands
 pub data Call : Type 0 where
@@ -34,6 +36,7 @@ pub data Call : Type 0 where
   check : CheckCall → Call
   carry : CarryCall → Call
   table : TableCall → Call
+  why : WhyCall → Call
 
 -- the call that a command's values stand for
 abbrev pub command_call : Command → Call
@@ -43,6 +46,7 @@ command_call (BoundCommand b) = bound (bound_call b)
 command_call (CheckCommand c) = check (check_call c)
 command_call (CarryCommand c) = carry (carry_call c)
 command_call (TableCommand t) = table (table_call t)
+command_call (WhyCommand w) = why (why_call w)
 
 -- the settings of a search, where the command has them, are within their limits, and so are its workers
 abbrev pub HasLawfulSettings : Command → Type 0
@@ -52,13 +56,14 @@ HasLawfulSettings (ViewCommand v) = Unit {0}
 HasLawfulSettings (CheckCommand c) = Unit {0}
 HasLawfulSettings (CarryCommand c) = Unit {0}
 HasLawfulSettings (TableCommand t) = Unit {0}
+HasLawfulSettings (WhyCommand w) = Unit {0}
 
 -- ---- the words that name them
 
 -- all commands, by which `clap` explains words of which the first is no command's name
 unfoldable pub program_app : App
 program_app =
-    with_subcommand (with_subcommand (with_subcommand (with_subcommand (with_subcommand (with_subcommand
+    with_subcommand (with_subcommand (with_subcommand (with_subcommand (with_subcommand (with_subcommand (with_subcommand
     (on_top (λ s. record s { no_binary_name = true; subcommand_required = true; arg_required_else_help = true })
     (new_app (codes "ih_planner")))
     improve_app.top)
@@ -66,7 +71,8 @@ program_app =
     bound_app.top)
     check_app.top)
     carry_app.top)
-    table_app.top
+    table_app.top)
+    why_app.top
 
 -- the description of the command with this name, by which `clap` reads and explains the words
 abbrev pub app_named : Text → App
@@ -77,7 +83,8 @@ app_named name =
     else (if bytes_eq name (codes "check") then check_app
     else (if bytes_eq name (codes "carry") then carry_app
     else (if bytes_eq name (codes "table") then table_app
-    else program_app)))))
+    else (if bytes_eq name (codes "why") then why_app
+    else program_app))))))
 
 -- the description of the command that the first word names, by which `clap` reads the words; else of the program
 unfoldable pub app_for : List Text → App
@@ -92,7 +99,8 @@ call_named name words =
     else (if bytes_eq name (codes "check") then option_map check (call_by check_app lawful_check words)
     else (if bytes_eq name (codes "carry") then option_map carry (call_by carry_app lawful_carry words)
     else (if bytes_eq name (codes "table") then option_map table (call_by table_app lawful_table words)
-    else None)))))
+    else (if bytes_eq name (codes "why") then option_map why (call_by why_app lawful_why words)
+    else None))))))
 
 -- the call that the words name, where they are lawful: the first word is the command's name
 unfoldable pub call_of : List Text → Option Call
@@ -108,6 +116,7 @@ inputs_of (bound b) = bound_inputs b
 inputs_of (check c) = check_inputs c
 inputs_of (carry c) = carry_inputs c
 inputs_of (table t) = table_inputs t
+inputs_of (why w) = why_inputs w
 
 -- what a call comes to that has one outcome: improve has one for each round
 abbrev pub comes_to : Call → Given → OutcomeState → Type 0
@@ -117,6 +126,7 @@ comes_to (bound b) = IsBounded b
 comes_to (check c) = IsChecked
 comes_to (carry c) = IsCarriedOver c
 comes_to (table t) = IsTabled t
+comes_to (why w) = IsExplained
 
 -- the answers of a call that has all that it needs
 abbrev pub IsAnswered : Call → Status → Type 0
@@ -128,3 +138,4 @@ IsAnswered (bound b) status = (status ≡ Done) ⊎ (status ≡ Infeasible) ⊎ 
 IsAnswered (check c) status = (status ≡ Done) ⊎ (status ≡ Infeasible) ⊎ (status ≡ OutOfMemory)
 IsAnswered (carry c) status = (status ≡ Done) ⊎ (status ≡ OutOfMemory)
 IsAnswered (table t) status = (status ≡ Done) ⊎ (status ≡ OutOfMemory)
+IsAnswered (why w) status = (status ≡ Done) ⊎ (status ≡ Infeasible) ⊎ (status ≡ OutOfMemory)

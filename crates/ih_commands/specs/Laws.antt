@@ -9,7 +9,9 @@ use Rattle.ih_shelf.specs.Outside.{IfTold, IsWritten, Names}
 use Rattle.ih_bound.specs.declared.outcomes.Outcome.{Outcome}
 use Rattle.ih_solution.specs.Solution.{solution}
 use Rattle.ih_validate.specs.Report.{report}
-use Rattle.ih_inputs.specs.Reading.{HasInputs, HasSolution}
+use Rattle.ih_why.specs.Account.{account}
+use Rattle.ih_why.specs.Laws.{NoneIsFeasible}
+use Rattle.ih_inputs.specs.Reading.{Given, HasGiven, HasInputs, HasSolution}
 use Rattle.ih_improve.specs.Following.{IsNoDearer, MayFollow}
 use Rattle.ih_improve.specs.Given.{AreSettingsOf}
 use Rattle.ih_improve.specs.ImproverState.{ImproverState}
@@ -19,11 +21,14 @@ use Rattle.ih_improve.specs.Pinned.{pins_of}
 use Rattle.ih_improve.specs.Terms.{Terms}
 use Rattle.ih_improve.specs.declared.settings.Settings.{Settings}
 use Rattle.ih_improve.specs.declared.spans.Span.{Span}
-use Rattle.ih_endings.specs.declared.status.Status.TheVariants.{Done, NoneFound}
+use Rattle.ih_endings.specs.declared.status.Status.TheVariants.{Done, Infeasible, NoneFound}
 use Rattle.ih_endings.specs.Ends.{Unchanged}
 use Rattle.ih_frame.specs.Outcomes.{OutcomeState}
 use Rattle.ih_frame.specs.Steps.{AreAllWritten, AreSteps}
+use Rattle.ih_commands.specs.Calls.{why}
 use Rattle.ih_commands.specs.Calls.Improve.{ImproveCall, improve_inputs}
+use Rattle.ih_commands.specs.Calls.Why.{WhyCall, why_inputs}
+use Rattle.ih_commands.specs.Ends.{CallEnds}
 use Rattle.ih_commands.specs.Pacing.{attempts_of}
 use Rattle.ih_commands.specs.Rounds.{HoldsBest, IsRound, SearchTask, changes_text, first_text, round_text}
 use Rattle.ih_commands.specs.declared.pacing.Length.TheVariants.{Attempts}
@@ -147,3 +152,16 @@ abbrev pub SearchesAreDetermined : Type 0
 SearchesAreDetermined =
     (c : ImproveCall) (files : Names) (held kept : Option Timetable) (bound limit : Option Outcome) (v w : ImproverState)
     (one : IsSearch (Some files) c held bound v) (other : IsSearch (Some files) c kept limit w) → one.from.processors ≡ other.from.processors → v ≡ w
+
+-- the account of the instance that the call reads is said, and no timetable of that is feasible
+pub record HasNoPlan (w : WhyCall) (old : Option Names) (text : List ℕ) : Type 0 where
+  pub given : Given
+  pub read : HasGiven old (why_inputs w) given
+  pub said : text ≡ account given.instance
+  pub none : NoneIsFeasible given.instance
+
+-- a call of why that ends with the status of an infeasible instance says why it is one
+abbrev pub ExplainedCallsHaveNoPlan : Type 0
+ExplainedCallsHaveNoPlan =
+    (w : WhyCall) (old new : Option Names) (text : List ℕ) → CallEnds (why w) old new Infeasible text
+    → HasNoPlan w old text

@@ -17,6 +17,7 @@ mod days;
 pub mod improve_words;
 pub mod table;
 pub mod view;
+pub mod why;
 
 use crate::command::bound::{BOUND, Bound, read_bound};
 use crate::command::carry::{CARRY, Carry, read_carry};
@@ -24,6 +25,7 @@ use crate::command::check::{CHECK, Check, read_check};
 use crate::command::improve_words::{IMPROVE, Improve, read_improve};
 use crate::command::table::{TABLE, Table, read_table};
 use crate::command::view::{VIEW, View, read_view};
+use crate::command::why::{WHY, Why, read_why};
 use crate::improving::improve;
 use crate::watches::Watch;
 use ih_arguments::arguments::{Description, with_commands};
@@ -50,9 +52,13 @@ pub enum Command<'a> {
     Carry(Carry<'a>),
     /// Writes a solution's timetable as a table.
     Table(Table<'a>),
+    /// Says why an instance has no feasible timetable.
+    Why(Why<'a>),
 }
 
-const COMMANDS: [Description<'static, 'static>; 6] = [IMPROVE, VIEW, BOUND, CHECK, CARRY, TABLE];
+const COMMANDS: [Description<'static, 'static>; 7] = [
+    IMPROVE, VIEW, BOUND, CHECK, CARRY, TABLE, WHY,
+];
 
 // All commands, for the help on the program.
 fn program_description<'a>(alloc: Global) -> Result<clap::Command<'a>, AllocError>
@@ -93,6 +99,7 @@ fn read_named<'a>(alloc: Global, name: &str, words: &'a [String]) -> Result<Comm
         "check" => Ok(Command::Check(read_check(alloc, words)?)),
         "carry" => Ok(Command::Carry(read_carry(alloc, words)?)),
         "table" => Ok(Command::Table(read_table(alloc, words)?)),
+        "why" => Ok(Command::Why(read_why(alloc, words)?)),
         _ => Err(explained_commands(alloc, words)),
     }
 }
@@ -147,5 +154,6 @@ pub(crate) fn perform<R: Files + Print + Threads + Wait + Sync, S: Finds, O: Sin
         Command::Check(call) => ih_frame::perform(rt, alloc, call, shelf, out),
         Command::Carry(call) => ih_frame::perform(rt, alloc, call, shelf, out),
         Command::Table(call) => ih_frame::perform(rt, alloc, call, shelf, out),
+        Command::Why(call) => ih_frame::perform(rt, alloc, call, shelf, out),
     }
 }

@@ -1,7 +1,8 @@
 //! Laws of calls, each on a function that does nothing.
 
 ghost use Rattle.ih_commands.specs.Laws.{DoneCallsHaveImproved, NoneFoundLeavesADraft, RoundsLeaveTheirBest};
-ghost use Rattle.ih_commands.specs.Laws.{AttemptsLeaveTheSame, RoundsLeaveTheSame, SearchesAreDetermined};
+ghost use Rattle.ih_commands.specs.Laws.{AttemptsLeaveTheSame, ExplainedCallsHaveNoPlan, RoundsLeaveTheSame};
+ghost use Rattle.ih_commands.specs.Laws.{SearchesAreDetermined};
 
 use ih_improve::Walks;
 
@@ -30,4 +31,9 @@ pub fn determined_workers_leave_the_same<W: Walks>()
 /// start, and the settings with what comes from the weights.
 pub fn searches_are_determined()
     ensures { SearchesAreDetermined }
+{}
+
+/// A call of `why` that ends with status 9 says the account of its instance, of which no timetable is feasible.
+pub fn explained_calls_have_no_plan()
+    ensures { ExplainedCallsHaveNoPlan }
 {}

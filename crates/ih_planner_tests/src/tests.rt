@@ -7,6 +7,7 @@ mod checks;
 mod improving;
 mod keeping;
 mod program;
+mod reasons;
 mod repairs;
 mod tables;
 mod timed;

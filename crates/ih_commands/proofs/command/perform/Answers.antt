@@ -35,3 +35,9 @@ returns-in-Table-clause-ends g c = rw c.in-Table.is c.perform-in-Table.ensures.e
 
 pub returns-in-Table-clause-once : goal.returns-in-Table-clause-once
 returns-in-Table-clause-once g c = rw c.in-Table.is c.perform-in-Table.ensures.once
+
+pub returns-in-Why-clause-ends : goal.returns-in-Why-clause-ends
+returns-in-Why-clause-ends g c = rw c.in-Why.is c.perform-in-Why.ensures.ends
+
+pub returns-in-Why-clause-once : goal.returns-in-Why-clause-once
+returns-in-Why-clause-once g c = rw c.in-Why.is c.perform-in-Why.ensures.once

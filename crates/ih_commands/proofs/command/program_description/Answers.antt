@@ -11,23 +11,24 @@ use Rattle.ih_commands.specs.Calls.Check.{check_app}
 use Rattle.ih_commands.specs.Calls.Improve.{improve_app}
 use Rattle.ih_commands.specs.Calls.Table.{table_app}
 use Rattle.ih_commands.specs.Calls.View.{view_app}
+use Rattle.ih_commands.specs.Calls.Why.{why_app}
 use Rattle.ih_commands.proofs.command.program_description.Goals as goal
 
 pub returns-clause-simple : goal.returns-clause-simple
-unfolding clap_on_literals program_app improve_app view_app bound_app check_app carry_app table_app
+unfolding clap_on_literals program_app improve_app view_app bound_app check_app carry_app table_app why_app
 returns-clause-simple c = refl
 
 -- a program with all commands
 abbrev with_all : App → App
 with_all a =
-    with_subcommand (with_subcommand (with_subcommand (with_subcommand (with_subcommand (with_subcommand a improve_app.top) view_app.top) bound_app.top)
-    check_app.top) carry_app.top) table_app.top
+    with_subcommand (with_subcommand (with_subcommand (with_subcommand (with_subcommand (with_subcommand (with_subcommand a improve_app.top) view_app.top) bound_app.top)
+    check_app.top) carry_app.top) table_app.top) why_app.top
 
 from-base : (old new : App) (r : Command) → old ≡ new → app_of r ≡ with_all old → app_of r ≡ with_all new
 from-base old new r is h = h ∙ ap with_all is
 
 pub returns-clause-app : goal.returns-clause-app
-unfolding program_app improve_app view_app bound_app check_app carry_app table_app
+unfolding program_app improve_app view_app bound_app check_app carry_app table_app why_app
 returns-clause-app c =
     let about = ap app_of_fields c.about.ensures ∙ c.new.ensures.app in
     let nameless = ap app_of_fields c.no_binary_name.ensures ∙ ap (on_top (λ (s : Shape). record s { no_binary_name = true })) about in

@@ -12,4 +12,5 @@ returns-in_default-clause-read c =
       other c.args.name.now _ c.in_default.not-check,
       other c.args.name.now _ c.in_default.not-carry,
       other c.args.name.now _ c.in_default.not-table,
+      other c.args.name.now _ c.in_default.not-why,
     ) (λ e. refl, c.explained_commands.ensures)
