@@ -31,13 +31,13 @@ pub record IsGreatest (ws : List ℕ) (g : ℕ) : Type 0 where
   pub greatest : All (λ w. w ≤ g) ws
 
 -- The heat falls from twice the middle weight to a tenth of it, rounded. A broken hard rule weighs twice the greatest
--- weight, but at least 1000; a change twice the middle weight.
+-- weight, but at least 1000; a change ten times the middle weight.
 abbrev pub defaults_by : ℕ → ℕ → Defaults
 defaults_by middle greatest = record {
   hot = 2 * middle;
   cold = (middle + 5) / 10;
   hard = max (2 * greatest) 1000;
-  keep = 2 * middle;
+  keep = 10 * middle;
 }
 
 -- these are the defaults by the weights of an instance

@@ -19,7 +19,7 @@ pub struct Defaults {
     /// The weight of a broken hard rule: twice the greatest weight, but at least 1000. So a unit of a broken rule
     /// weighs more than one of any cost.
     pub hard: u32,
-    /// The points of a change: twice the middle weight.
+    /// The points of a change: ten times the middle weight.
     pub keep: u32,
 }
 
@@ -148,7 +148,7 @@ impl Defaults {
             hot: 2 * middle,
             cold: (middle + 5) / 10,
             hard: (2 * greatest_weight(inst)).max(1000),
-            keep: 2 * middle,
+            keep: 10 * middle,
         }
     }
 }

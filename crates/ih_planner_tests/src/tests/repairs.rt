@@ -23,13 +23,13 @@ cost before: 159, after: 159
 round 1 of 4: 2000 attempts, cost 159, …
 0 changes: 0 patients, 0 nurses' shifts
 cost before: 159, after: 159
-> # what weighs nothing isn't told; where no number is given, it is twice the middle weight, which is 5
+> # what weighs nothing isn't told; where no number is given, it is ten times the middle weight, which is 5
 > says 0 improve i o --seed 0 --workers 1 --attempts 2000 --rounds 2 --hot 50 --cold 1 --start s --keep 0 --replace
 round 1 of 2: 1000 attempts, …
 cost 70
 > alike
 improve i o --seed 0 --workers 1 --attempts 2000 --rounds 2 --start s --replace
-improve i p --seed 0 --workers 1 --attempts 2000 --rounds 2 --start s --keep 10 --replace
+improve i p --seed 0 --workers 1 --attempts 2000 --rounds 2 --start s --keep 50 --replace
 > same o p
 ";
 
