@@ -21,13 +21,6 @@ pub struct Stay<'a> {
     pub last: u32,
 }
 
-// A stay, and the number that each shift was given.
-#[derive(Clone, Copy)]
-struct Numbered<'a> {
-    stay: &'a Stay<'a>,
-    numbers: &'a [u64],
-}
-
 /// What stands at a place of a list, and 0 past its end.
 #[inline(always)]
 pub fn need_at(list: &[u32], index: u32) -> u32
@@ -80,39 +73,46 @@ fn spared_in(
     inst: &Instance,
     rates: &Rates,
     prices: &Prices,
-    on: Numbered<'_>,
+    stay: &Stay<'_>,
+    numbers: &[u64],
     nurse: NurseNo,
     shift: u32,
 ) -> u64
     requires nurse { nurse.0 < nurse_count inst.now.draft }
-    requires first { on.stay.now.first ≤ shift }
-    requires last { shift < on.stay.now.last }
-    requires horizon { on.stay.now.last ≤ shift_count inst.now.draft }
-    ensures least { let s = on.stay.now in spared_in inst.now.draft rates.now
-        (tariff_of inst.now.draft rates.now prices.now)
-        (asked s.skill.now s.load.now s.first s.last) on.numbers.now nurse.0 shift ≤ result }
+    requires first { stay.now.first ≤ shift }
+    requires last { shift < stay.now.last }
+    requires horizon { stay.now.last ≤ shift_count inst.now.draft }
+    ensures least { spared_in inst.now.draft rates.now (tariff_of inst.now.draft rates.now prices.now)
+        (asked stay.now.skill.now stay.now.load.now stay.now.first stay.now.last) numbers.now nurse.0 shift ≤ result }
     ensures most { result ≤ 2 ^ 50 }
 {
     match inst.works(nurse, Shift(shift)) {
         None => 0,
-        Some(_) => number(on.numbers, shift).saturating_sub(care_price(
-            inst, rates, prices, on.stay, nurse, shift,
+        Some(_) => number(numbers, shift).saturating_sub(care_price(
+            inst, rates, prices, stay, nurse, shift,
         )),
     }
 }
 
 // At least what a nurse is spared over the stay.
-fn spared(inst: &Instance, rates: &Rates, prices: &Prices, on: Numbered<'_>, nurse: NurseNo) -> u64
+fn spared(
+    inst: &Instance,
+    rates: &Rates,
+    prices: &Prices,
+    stay: &Stay<'_>,
+    numbers: &[u64],
+    nurse: NurseNo,
+) -> u64
     requires nurse { nurse.0 < nurse_count inst.now.draft }
-    requires order { on.stay.now.first ≤ on.stay.now.last }
-    requires horizon { on.stay.now.last ≤ shift_count inst.now.draft }
-    ensures { let s = on.stay.now in sum_below (shift_count inst.now.draft) (spared_in inst.now.draft rates.now
+    requires order { stay.now.first ≤ stay.now.last }
+    requires horizon { stay.now.last ≤ shift_count inst.now.draft }
+    ensures { sum_below (shift_count inst.now.draft) (spared_in inst.now.draft rates.now
         (tariff_of inst.now.draft rates.now prices.now)
-        (asked s.skill.now s.load.now s.first s.last) on.numbers.now nurse.0) ≤ result }
+        (asked stay.now.skill.now stay.now.load.now stay.now.first stay.now.last) numbers.now nurse.0) ≤ result }
 {
     let mut sum = 0;
-    for k in on.stay.first..on.stay.last {
-        sum += spared_in(inst, rates, prices, on, nurse, k);
+    for k in stay.first..stay.last {
+        sum += spared_in(inst, rates, prices, stay, numbers, nurse, k);
     }
     sum
 }
@@ -130,9 +130,8 @@ fn spares_few(
     ensures { IsTrue result → SparesFew inst.now.draft rates.now (tariff_of inst.now.draft rates.now prices.now)
         (asked stay.now.skill.now stay.now.load.now stay.now.first stay.now.last) numbers.now }
 {
-    let on = Numbered { stay, numbers };
     for n in 0..inst.nurses() {
-        if spared(inst, rates, prices, on, NurseNo(n)) > rates.nurse {
+        if spared(inst, rates, prices, stay, numbers, NurseNo(n)) > rates.nurse {
             return false;
         }
     }

@@ -95,34 +95,26 @@ fn found_value(alloc: Global, inst: &Instance, plan: &Plan) -> Result<Value, All
     findings_value(alloc, Numbering::of(inst), &ledgers)
 }
 
-// A timetable that a page shows, with the date of its first day and an older timetable where they are known.
-#[derive(Drop)]
-struct Contents<'a> {
-    inst: &'a Instance,
-    plan: &'a Plan,
-    first: Option<Date>,
-    older: Option<&'a Plan>,
-    ghost plan_fits: { IsPlanOf inst.now.draft plan.now },
-    ghost older_fits: { IfSome older (λ o. IsPlanOf inst.now.draft o.now) },
-}
-
 // All that the page shows.
 #[tactic(auto, unfolding(crate::specs::Page::page_data))]
 fn page_value(
     alloc: Global,
     heading: &Heading<'_>,
-    shown: &Contents<'_>,
+    inst: &Instance,
+    plan: &Plan,
+    first: Option<Date>,
+    older: Option<&Plan>,
 ) -> Result<Value, AllocError>
-    ensures { let x = shown.now in IfOk result (λ v. view v
-        ≡ page_data (heading_texts heading.now) x.inst.now.draft x.first (option_map (λ o. o.now) x.older) x.plan.now) }
+    requires plan { IsPlanOf inst.now.draft plan.now }
+    requires older { IfSome older (λ o. IsPlanOf inst.now.draft o.now) }
+    ensures { IfOk result (λ v. view v
+        ≡ page_data (heading_texts heading.now) inst.now.draft first (option_map (λ o. o.now) older.entry) plan.now) }
 {
-    let inst = shown.inst;
-    let plan = shown.plan;
     let bill = bill_value(alloc, inst, plan)?;
     let care = care_values(alloc, inst, plan)?;
-    let changes = changes_since(alloc, inst, plan, shown.older)?;
+    let changes = changes_since(alloc, inst, plan, older)?;
     let findings = found_value(alloc, inst, plan)?;
-    let first = date_value(alloc, shown.first)?;
+    let first = date_value(alloc, first)?;
     let heading = heading_value(alloc, heading)?;
     let instance = instance_value(alloc, &inst.draft)?;
     let stays = stay_values(alloc, inst, plan)?;
@@ -143,12 +135,17 @@ fn page_value(
 fn page_text(
     alloc: Global,
     heading: &Heading<'_>,
-    shown: &Contents<'_>,
+    inst: &Instance,
+    plan: &Plan,
+    first: Option<Date>,
+    older: Option<&Plan>,
 ) -> Result<Vec<u8>, AllocError>
-    ensures { let x = shown.now in IfOk result (λ v. v.items ≡ compact_text
-        (page_data (heading_texts heading.now) x.inst.now.draft x.first (option_map (λ o. o.now) x.older) x.plan.now)) }
+    requires plan { IsPlanOf inst.now.draft plan.now }
+    requires older { IfSome older (λ o. IsPlanOf inst.now.draft o.now) }
+    ensures { IfOk result (λ v. v.items ≡ compact_text
+        (page_data (heading_texts heading.now) inst.now.draft first (option_map (λ o. o.now) older.entry) plan.now)) }
 {
-    page_value(alloc, heading, shown)?.to_vec(alloc)
+    page_value(alloc, heading, inst, plan, first, older)?.to_vec(alloc)
 }
 
 // The template with a text of JSON in its place.
@@ -178,13 +175,7 @@ pub fn page(
     ensures { IfOk result (λ text. text.items
         ≡ page_of (heading_texts heading.now) inst.now.draft first (option_map (λ o. o.now) older.entry) plan.now) }
 {
-    let shown = Contents {
-        inst,
-        plan,
-        first,
-        older,
-    };
-    let text = page_text(alloc, heading, &shown)?;
+    let text = page_text(alloc, heading, inst, plan, first, older)?;
     let mut out = Vec::new(alloc);
     put_page(&mut out, text.as_slice())?;
     Ok(out)

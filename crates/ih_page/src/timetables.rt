@@ -11,7 +11,6 @@ ghost use Rattle.ih_page.specs.Values.{option_data};
 
 use crate::values::values;
 use ih_plan::{Placement, Plan};
-use ih_solution::listed_values;
 use ih_tables::{Bill, Instance, PatientNo, RoomNo, Shift};
 use ih_validate::bill;
 use serde_json::{Value, json};
@@ -28,14 +27,16 @@ pub fn stay_value(alloc: Global, stay: Option<Placement>) -> Result<Value, Alloc
 }
 
 /// Every patient's stay, in number order.
+#[tactic(auto, using(ih_solution::proofs::ListedValues::listed_steps))]
 pub fn stay_values(alloc: Global, inst: &Instance, plan: &Plan) -> Result<Vec<Value>, AllocError>
     requires { IsPlanOf inst.now.draft plan.now }
     ensures { IfOk result (λ v. map view v.items ≡ stays_data inst.now.draft plan.now) }
 {
-    listed_values(alloc, inst.patients(), |p| {
-        let stay = plan.stay(PatientNo(p));
-        stay_value(alloc, stay)
-    })
+    let mut values = Vec::new(alloc);
+    for p in 0..inst.patients() {
+        values.push(stay_value(alloc, plan.stay(PatientNo(p)))?)?;
+    }
+    Ok(values)
 }
 
 /// The number of the room's nurse in the shift, or null.
@@ -53,6 +54,7 @@ pub fn nurse_value(inst: &Instance, plan: &Plan, room: RoomNo, shift: Shift) -> 
 }
 
 // The room's nurses, shift by shift.
+#[tactic(auto, using(ih_solution::proofs::ListedValues::listed_steps))]
 fn nurse_values(
     alloc: Global,
     inst: &Instance,
@@ -63,23 +65,38 @@ fn nurse_values(
     requires room { room.0 < room_count inst.now.draft }
     ensures { IfOk result (λ v. map view v.items ≡ nurses_data inst.now.draft plan.now room.0) }
 {
-    listed_values(
-        alloc,
-        inst.shifts(),
-        |k| Ok(nurse_value(inst, plan, room, Shift(k))),
-    )
+    let mut values = Vec::new(alloc);
+    for k in 0..inst.shifts() {
+        values.push(nurse_value(inst, plan, room, Shift(k)))?;
+    }
+    Ok(values)
+}
+
+#[tactic(auto, unfolding(crate::specs::TimetableData::room_data))]
+fn room_value(
+    alloc: Global,
+    inst: &Instance,
+    plan: &Plan,
+    room: RoomNo,
+) -> Result<Value, AllocError>
+    requires plan { IsPlanOf inst.now.draft plan.now }
+    requires room { room.0 < room_count inst.now.draft }
+    ensures { IfOk result (λ v. view v ≡ room_data inst.now.draft plan.now room.0) }
+{
+    Ok(Value::Array(nurse_values(alloc, inst, plan, room)?))
 }
 
 /// The nurses of every room, in number order.
-#[tactic(auto, unfolding(crate::specs::TimetableData::room_data))]
+#[tactic(auto, using(ih_solution::proofs::ListedValues::listed_steps))]
 pub fn care_values(alloc: Global, inst: &Instance, plan: &Plan) -> Result<Vec<Value>, AllocError>
     requires { IsPlanOf inst.now.draft plan.now }
     ensures { IfOk result (λ v. map view v.items ≡ care_data inst.now.draft plan.now) }
 {
-    listed_values(alloc, inst.rooms(), |r| {
-        let nurses = nurse_values(alloc, inst, plan, RoomNo(r))?;
-        Ok(Value::Array(nurses))
-    })
+    let mut values = Vec::new(alloc);
+    for r in 0..inst.rooms() {
+        values.push(room_value(alloc, inst, plan, RoomNo(r))?)?;
+    }
+    Ok(values)
 }
 
 // A bill and its cost.

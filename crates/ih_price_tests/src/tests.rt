@@ -1,6 +1,5 @@
 //! The tests, by what they are of.
 
-mod admissions;
 mod bills;
 mod costs;
 mod fill;
@@ -8,3 +7,5 @@ mod footprint;
 mod ledgers;
 mod links;
 mod nurses;
+mod roomdays;
+mod theatres;

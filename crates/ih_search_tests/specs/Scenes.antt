@@ -18,10 +18,6 @@ IsGiven I start options = IsPlanOf I start × IsLawful options
 abbrev pub IsOver : Draft → Options → Base → Type 0
 IsOver I options b = (I ≡ b.instance) × (options ≡ b.options)
 
--- the search is over this instance by these options, and the start is a timetable of the instance
-abbrev pub IsPlayed : Draft → Timetable → Options → Base → Type 0
-IsPlayed I start options b = IsPlanOf I start × IsOver I options b
-
 -- the replica is a new one of a search over the start
 abbrev pub IsNewReplica : Draft → Timetable → Options → ℕ → ReplicaState → Type 0
 IsNewReplica I start options freeze r = IsReplicaOf (base_with I start options freeze) [] r

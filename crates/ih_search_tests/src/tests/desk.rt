@@ -123,10 +123,40 @@ fn has_shown(buffer: &Buffer, text: &str) -> bool {
     buffer.entries().len() == count as usize && buffer.front() == front
 }
 
+// Whether a look has shown an entry at its place.
+fn has_shown_entry(buffer: &Buffer, place: u32, entry: &Entry) -> bool {
+    is_at(buffer.entries(), place, entry)
+}
+
 // Whether the seat has seen so many entries, and made so many.
 fn has_counts(seat: &DeskSeat<'_, Entry>, text: &str) -> bool {
     let (seen, made) = pair(text);
     (seat.seen(), seat.made()) == (seen as u64, made as u64)
+}
+
+// What comes of a seat by an entry's line, and whether that is as the line says.
+fn step_by_line<'a, R: Wait>(
+    rt: &R,
+    scene: &Scene<'_>,
+    desk: &Desk<'a>,
+    seat: DeskSeat<'a, Entry>,
+    replica: &mut Replica<'_>,
+    buffer: &mut Buffer,
+    offers: bool,
+    line: &str,
+) -> (DeskSeat<'a, Entry>, bool)
+    requires seat { IsFollowed desk.now seat replica.old }
+    requires left { 2 ≤ turns_left seat }
+    requires over { IsOver scene.now.inst.now.draft scene.now.options (base_of desk.now) }
+    ensures { StaysFollowed desk.now seat.entry result.0 replica.new }
+{
+    match parse_line(scene.inst, &scene.options, line.as_bytes()) {
+        Ok((_, entry)) if offers => {
+            offer(rt, desk, seat, replica, &scene.options, buffer, &entry)
+        }
+        Ok((place, entry)) => (seat, has_shown_entry(buffer, place, &entry)),
+        Err(_) => (seat, false),
+    }
 }
 
 // What comes of a seat by a line, and whether that is as the line says. A seat with fewer than two turns left does
@@ -158,24 +188,27 @@ fn step<'a, R: Wait>(
             let counts = has_counts(&seat, text);
             (seat, counts)
         }
-        _ => match parse_line(scene.inst, &scene.options, text.as_bytes()) {
-            Ok((_, entry)) if verb == "offers" => {
-                offer(rt, desk, seat, replica, &scene.options, buffer, &entry)
-            }
-            Ok((place, entry)) => (seat, is_at(buffer.entries(), place, &entry)),
-            Err(_) => (seat, false),
-        },
+        _ => step_by_line(
+            rt,
+            scene,
+            desk,
+            seat,
+            replica,
+            buffer,
+            verb == "offers",
+            text,
+        ),
     }
 }
 
 // Plays some lines, and says whether each comes out so. It ends at the first that doesn't.
 fn step_all<'a, R: Wait>(
     rt: &R,
-    alloc: Global,
     scene: &Scene<'_>,
     desk: &Desk<'a>,
     seat: DeskSeat<'a, Entry>,
     replica: &mut Replica<'_>,
+    buffer: &mut Buffer,
     lines: &str,
 ) -> (DeskSeat<'a, Entry>, bool)
     requires seat { IsFollowed desk.now seat replica.old }
@@ -183,11 +216,8 @@ fn step_all<'a, R: Wait>(
     ensures { StaysFollowed desk.now seat.entry result.0 replica.new }
 {
     let mut seat = seat;
-    let Ok(mut buffer) = Buffer::new(alloc) else {
-        return (seat, false);
-    };
     for line in lines.split('\n') {
-        let (after, is_so) = step(rt, scene, desk, seat, replica, &mut buffer, line);
+        let (after, is_so) = step(rt, scene, desk, seat, replica, buffer, line);
         if !is_so {
             return (after, false);
         }
@@ -222,6 +252,7 @@ fn take_turns<'a, R: Wait>(
     right: DeskSeat<'a, Entry>,
     zero: &mut Replica<'_>,
     one: &mut Replica<'_>,
+    buffer: &mut Buffer,
     acts: &str,
 ) -> bool
     requires left { (number_of left ≡ 0) × IsFollowed desk left zero.old }
@@ -231,9 +262,9 @@ fn take_turns<'a, R: Wait>(
 {
     let (first, acts) = cut(acts, "\n\n");
     let (second, third) = cut(acts, "\n\n");
-    let (right, is_first) = step_all(rt, alloc, scene, &desk, right, one, first);
-    let (left, is_second) = step_all(rt, alloc, scene, &desk, left, zero, second);
-    let (right, is_third) = step_all(rt, alloc, scene, &desk, right, one, third);
+    let (right, is_first) = step_all(rt, scene, &desk, right, one, buffer, first);
+    let (left, is_second) = step_all(rt, scene, &desk, left, zero, buffer, second);
+    let (right, is_third) = step_all(rt, scene, &desk, right, one, buffer, third);
     closes_with_three(alloc, desk, left, right) && is_first && is_second && is_third
 }
 
@@ -246,6 +277,7 @@ fn work_beside<'a, R: Threads + Wait + Sync>(
     left: DeskSeat<'a, Entry>,
     right: DeskSeat<'a, Entry>,
     one: &mut Replica<'_>,
+    buffer: &mut Buffer,
     lines: &str,
 ) -> bool
     requires given { IsGiven scene.now.inst.now.draft scene.now.start.now scene.now.options }
@@ -255,7 +287,7 @@ fn work_beside<'a, R: Threads + Wait + Sync>(
     requires turns { enough_turns scene.now.options ≤ 32 }
 {
     let works = works(rt, alloc, scene, desk, left);
-    let (_seat, is_so) = step_all(rt, alloc, scene, desk, right, one, lines);
+    let (_seat, is_so) = step_all(rt, scene, desk, right, one, buffer, lines);
     works && is_so
 }
 
@@ -268,6 +300,7 @@ fn act_in_seats<'a, R: Threads + Wait + Sync>(
     seats: Vec<DeskSeat<'a, Entry>>,
     zero: &mut Replica<'_>,
     one: &mut Replica<'_>,
+    buffer: &mut Buffer,
     acts: &str,
 ) -> bool
     requires given { IsGiven scene.now.inst.now.draft scene.now.start.now scene.now.options }
@@ -281,9 +314,9 @@ fn act_in_seats<'a, R: Threads + Wait + Sync>(
     match two_of(seats) {
         Some((left, right)) => {
             if first == "works" {
-                work_beside(rt, alloc, scene, &desk, left, right, one, lines)
+                work_beside(rt, alloc, scene, &desk, left, right, one, buffer, lines)
             } else {
-                take_turns(rt, alloc, scene, desk, left, right, zero, one, acts)
+                take_turns(rt, alloc, scene, desk, left, right, zero, one, buffer, acts)
             }
         }
         None => false,
@@ -305,6 +338,7 @@ pub(crate) fn act_at_desk<'a, R: Threads + Wait + Sync>(
     book: Book<'a>,
     zero: &mut Replica<'_>,
     one: &mut Replica<'_>,
+    buffer: &mut Buffer,
     acts: &str,
 ) -> bool
     requires given { IsGiven scene.now.inst.now.draft scene.now.start.now scene.now.options }
@@ -316,7 +350,7 @@ pub(crate) fn act_at_desk<'a, R: Threads + Wait + Sync>(
         return false;
     }
     match Desk::open(alloc, book, 2, 32) {
-        Ok((desk, seats)) => act_in_seats(rt, alloc, scene, desk, seats, zero, one, acts),
+        Ok((desk, seats)) => act_in_seats(rt, alloc, scene, desk, seats, zero, one, buffer, acts),
         Err(_) => false,
     }
 }

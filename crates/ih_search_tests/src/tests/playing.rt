@@ -3,20 +3,19 @@
 //! A scene begins with a journal's heading. A line `desk` behind it opens a desk over the book. Each function owns one
 //! or two of the values with which a scene is played, and lends them to the next.
 
-ghost use Rattle.std.specs.Prelude.{IfOk};
 ghost use Rattle.ih_plan.specs.Timetable.{IsPlanOf};
 ghost use Rattle.ih_search_tests.specs.Scenes.{IsGiven, IsNewReplica};
 
 use crate::tests::desk::act_at_desk;
 use crate::tests::scenes::{Scene, act_all};
-use ih_cellbook::Book;
+use ih_cellbook::{Book, Buffer, News};
 use ih_fixtures::cut;
 use ih_journal::parse_head;
 use ih_plan::Plan;
 use ih_snapshot::Replica;
 use ih_tables::Instance;
 use ih_validate::bill;
-use std::alloc::{AllocError, Global};
+use std::alloc::Global;
 use std::sync::Wait;
 use std::thread::Threads;
 
@@ -27,6 +26,8 @@ fn act_over_book<R: Threads + Wait + Sync>(
     scene: &Scene<'_>,
     zero: &mut Replica<'_>,
     one: &mut Replica<'_>,
+    buffer: &mut Buffer,
+    news: &mut News,
     lines: &str,
 ) -> bool
     requires given { IsGiven scene.now.inst.now.draft scene.now.start.now scene.now.options }
@@ -45,29 +46,34 @@ fn act_over_book<R: Threads + Wait + Sync>(
         Ok(mut book) => {
             let (opened, acts) = cut(lines, "\n");
             if opened == "desk" && scene.freeze == 0 {
-                act_at_desk(rt, alloc, scene, book, zero, one, acts)
+                act_at_desk(rt, alloc, scene, book, zero, one, buffer, acts)
             } else {
-                act_all(alloc, scene, &mut book, zero, one, lines)
+                act_all(alloc, scene, &mut book, zero, one, buffer, news, lines)
             }
         }
         Err(_) => false,
     }
 }
 
-impl<'w> Scene<'w> {
-    // A worker's replica at the start.
-    fn replica(&self, alloc: Global, worker: u32) -> Result<Replica<'w>, AllocError>
-        requires { IsGiven self.now.inst.now.draft self.now.start.now self.now.options }
-        ensures { let x = self.now in IfOk result (IsNewReplica x.inst.now.draft x.start.now x.options x.freeze) }
-    {
-        Replica::new(
-            alloc,
-            self.inst,
-            self.start,
-            &self.options,
-            self.freeze,
-            worker,
-        )
+// Plays some lines over a book, by replicas with room for copies and news.
+fn act_with_room<R: Threads + Wait + Sync>(
+    rt: &R,
+    alloc: Global,
+    scene: &Scene<'_>,
+    zero: &mut Replica<'_>,
+    one: &mut Replica<'_>,
+    lines: &str,
+) -> bool
+    requires given { IsGiven scene.now.inst.now.draft scene.now.start.now scene.now.options }
+    requires zero { IsNewReplica scene.now.inst.now.draft scene.now.start.now scene.now.options scene.now.freeze zero.old }
+    requires one { IsNewReplica scene.now.inst.now.draft scene.now.start.now scene.now.options scene.now.freeze one.old }
+{
+    let Ok(mut buffer) = Buffer::new(alloc) else {
+        return false;
+    };
+    match News::new(alloc) {
+        Ok(mut news) => act_over_book(rt, alloc, scene, zero, one, &mut buffer, &mut news, lines),
+        Err(_) => false,
     }
 }
 
@@ -82,8 +88,15 @@ fn act_with_one<R: Threads + Wait + Sync>(
     requires given { IsGiven scene.now.inst.now.draft scene.now.start.now scene.now.options }
     requires zero { IsNewReplica scene.now.inst.now.draft scene.now.start.now scene.now.options scene.now.freeze zero.old }
 {
-    match scene.replica(alloc, 1) {
-        Ok(mut one) => act_over_book(rt, alloc, scene, zero, &mut one, lines),
+    match Replica::new(
+        alloc,
+        scene.inst,
+        scene.start,
+        &scene.options,
+        scene.freeze,
+        1,
+    ) {
+        Ok(mut one) => act_with_room(rt, alloc, scene, zero, &mut one, lines),
         Err(_) => false,
     }
 }
@@ -97,7 +110,14 @@ fn act_with_both<R: Threads + Wait + Sync>(
 ) -> bool
     requires given { IsGiven scene.now.inst.now.draft scene.now.start.now scene.now.options }
 {
-    match scene.replica(alloc, 0) {
+    match Replica::new(
+        alloc,
+        scene.inst,
+        scene.start,
+        &scene.options,
+        scene.freeze,
+        0,
+    ) {
         Ok(mut zero) => act_with_one(rt, alloc, scene, &mut zero, lines),
         Err(_) => false,
     }

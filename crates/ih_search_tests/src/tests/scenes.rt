@@ -6,7 +6,7 @@
 ghost use Rattle.std.specs.Prelude.{◌≡◌};
 ghost use Rattle.ih_plan.specs.Timetable.{IsPlanOf};
 ghost use Rattle.ih_cellbook.specs.Replicas.{IsReplicaIn};
-ghost use Rattle.ih_search_tests.specs.Scenes.{IsOver, IsPlayed, StayIn};
+ghost use Rattle.ih_search_tests.specs.Scenes.{IsOver, StayIn};
 
 use crate::tests::histories::{bill_after, is_exact};
 use crate::tests::rounds::{advance, catch_up, is_priced, offer};
@@ -18,7 +18,7 @@ use ih_plan::{Move, Plan};
 use ih_snapshot::Replica;
 use ih_tables::Instance;
 use ih_validate::bill;
-use std::alloc::{AllocError, Global};
+use std::alloc::Global;
 
 /// What a scene is played on: a ward, a timetable of it with which the search begins, and the search's options. Days
 /// before `freeze` are frozen.
@@ -28,22 +28,6 @@ pub(crate) struct Scene<'w> {
     pub(crate) start: &'w Plan,
     pub(crate) options: Options,
     pub(crate) freeze: u32,
-}
-
-// Room for copies of entries, and for news.
-#[derive(Drop)]
-struct Notes {
-    buffer: Buffer,
-    news: News,
-}
-
-impl Notes {
-    fn new(alloc: Global) -> Result<Notes, AllocError> {
-        Ok(Notes {
-            buffer: Buffer::new(alloc)?,
-            news: News::new(alloc)?,
-        })
-    }
 }
 
 /// Whether the entry at a place is this one.
@@ -121,7 +105,8 @@ fn steps(
     scene: &Scene<'_>,
     book: &mut Book<'_>,
     replica: &mut Replica<'_>,
-    notes: &mut Notes,
+    buffer: &mut Buffer,
+    news: &mut News,
     text: &str,
 ) -> bool
     requires over { IsOver scene.now.inst.now.draft scene.now.options book.old.base }
@@ -134,9 +119,9 @@ fn steps(
     match verb {
         "offers" => offers(scene, book, replica, text),
         "prices" => prices(scene, book, replica, text),
-        "idles" => idles(&scene.options, book, replica, &mut notes.news, number(text)),
-        "looks" => catch_up(book, replica, &mut notes.news) == pair(text),
-        "copies" => advance(book, replica, &mut notes.buffer) == pair(text),
+        "idles" => idles(&scene.options, book, replica, news, number(text)),
+        "looks" => catch_up(book, replica, news) == pair(text),
+        "copies" => advance(book, replica, buffer) == pair(text),
         _ => false,
     }
 }
@@ -198,10 +183,12 @@ fn acts(
     book: &mut Book<'_>,
     zero: &mut Replica<'_>,
     one: &mut Replica<'_>,
-    notes: &mut Notes,
+    buffer: &mut Buffer,
+    news: &mut News,
     line: &str,
 ) -> bool
-    requires over { IsPlayed scene.now.inst.now.draft scene.now.start.now scene.now.options book.old.base }
+    requires start { IsPlanOf scene.now.inst.now.draft scene.now.start.now }
+    requires over { IsOver scene.now.inst.now.draft scene.now.options book.old.base }
     requires zero { IsReplicaIn book.old.base book.old.entries zero.old }
     requires one { IsReplicaIn book.old.base book.old.entries one.old }
     ensures base { book.new.base ≡ book.old.base }
@@ -210,9 +197,9 @@ fn acts(
 {
     let (who, text) = word(line);
     match who {
-        "0" => steps(scene, book, zero, notes, text),
-        "1" => steps(scene, book, one, notes, text),
-        _ => tells(alloc, scene, book, &mut notes.buffer, text),
+        "0" => steps(scene, book, zero, buffer, news, text),
+        "1" => steps(scene, book, one, buffer, news, text),
+        _ => tells(alloc, scene, book, buffer, text),
     }
 }
 
@@ -223,17 +210,18 @@ pub(crate) fn act_all(
     book: &mut Book<'_>,
     zero: &mut Replica<'_>,
     one: &mut Replica<'_>,
+    buffer: &mut Buffer,
+    news: &mut News,
     lines: &str,
 ) -> bool
-    requires over { IsPlayed scene.now.inst.now.draft scene.now.start.now scene.now.options book.old.base }
+    requires start { IsPlanOf scene.now.inst.now.draft scene.now.start.now }
+    requires over { IsOver scene.now.inst.now.draft scene.now.options book.old.base }
     requires zero { IsReplicaIn book.old.base book.old.entries zero.old }
     requires one { IsReplicaIn book.old.base book.old.entries one.old }
+    ensures base { book.new.base ≡ book.old.base }
 {
-    let Ok(mut notes) = Notes::new(alloc) else {
-        return false;
-    };
     for line in lines.split('\n') {
-        if !acts(alloc, scene, book, zero, one, &mut notes, line) {
+        if !acts(alloc, scene, book, zero, one, buffer, news, line) {
             return false;
         }
     }

@@ -10,16 +10,16 @@ pub loop-k-init : goal.loop-k-init
 loop-k-init c =
     let I = c.args.inst.now.draft in
     let t = tariff_of I c.args.rates.now c.args.prices.now in
-    let s = asked c.args.on.stay.now.skill.now c.args.on.stay.now.load.now c.args.on.stay.now.first c.args.on.stay.now.last in
-    let none = none-before s (spared_in I c.args.rates.now t s c.args.on.numbers.now c.args.nurse.0) (outside-spared I c.args.rates.now t s c.args.on.numbers.now c.args.nurse.0) in
+    let s = asked c.args.stay.now.skill.now c.args.stay.now.load.now c.args.stay.now.first c.args.stay.now.last in
+    let none = none-before s (spared_in I c.args.rates.now t s c.args.numbers.now c.args.nurse.0) (outside-spared I c.args.rates.now t s c.args.numbers.now c.args.nurse.0) in
     record { least = omega (arith, none); most = omega arith }
 
 pub loop-k-preserved : goal.loop-k-preserved
 loop-k-preserved c =
     let I = c.args.inst.now.draft in
     let t = tariff_of I c.args.rates.now c.args.prices.now in
-    let s = asked c.args.on.stay.now.skill.now c.args.on.stay.now.load.now c.args.on.stay.now.first c.args.on.stay.now.last in
-    let more = sum_below-more c.loop-k.k (spared_in I c.args.rates.now t s c.args.on.numbers.now c.args.nurse.0) in
+    let s = asked c.args.stay.now.skill.now c.args.stay.now.load.now c.args.stay.now.first c.args.stay.now.last in
+    let more = sum_below-more c.loop-k.k (spared_in I c.args.rates.now t s c.args.numbers.now c.args.nurse.0) in
     record {
       least = omega (arith, more, c.spared_in-sum.ensures.least, c.loop-k.invariant.least);
       most = omega (arith, c.spared_in-sum.ensures.most, c.loop-k.invariant.most);
@@ -29,7 +29,7 @@ pub returns : goal.returns
 returns c =
     let I = c.args.inst.now.draft in
     let t = tariff_of I c.args.rates.now c.args.prices.now in
-    let s = asked c.args.on.stay.now.skill.now c.args.on.stay.now.load.now c.args.on.stay.now.first c.args.on.stay.now.last in
-    let end : c.loop-k.k ≡ c.args.on.stay.now.last = omega arith in
-    let all = none-behind s (shift_count I) (spared_in I c.args.rates.now t s c.args.on.numbers.now c.args.nurse.0) c.requires.horizon (outside-spared I c.args.rates.now t s c.args.on.numbers.now c.args.nurse.0) in
+    let s = asked c.args.stay.now.skill.now c.args.stay.now.load.now c.args.stay.now.first c.args.stay.now.last in
+    let end : c.loop-k.k ≡ c.args.stay.now.last = omega arith in
+    let all = none-behind s (shift_count I) (spared_in I c.args.rates.now t s c.args.numbers.now c.args.nurse.0) c.requires.horizon (outside-spared I c.args.rates.now t s c.args.numbers.now c.args.nurse.0) in
     rw all (rw end at c.loop-k.invariant.least)

@@ -6,6 +6,6 @@ use Rattle.ih_bound.proofs.stays.spared.Given as goal
 
 abbrev pub invariant-loop-k : goal.invariant-loop-k
 invariant-loop-k l = record {
-  least : sum_below l.k (spared_in l.inst.draft l.rates (tariff_of l.inst.draft l.rates l.prices) (asked l.on.stay.now.skill.now l.on.stay.now.load.now l.on.stay.now.first l.on.stay.now.last) l.on.numbers.now l.nurse.0) ≤ l.sum;
+  least : sum_below l.k (spared_in l.inst.draft l.rates (tariff_of l.inst.draft l.rates l.prices) (asked l.stay.skill.now l.stay.load.now l.stay.first l.stay.last) l.numbers l.nurse.0) ≤ l.sum;
   most : l.sum ≤ 2 ^ 50 * l.k;
 }
