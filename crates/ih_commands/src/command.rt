@@ -50,7 +50,7 @@ pub enum Command<'a> {
     Check(Check<'a>),
     /// Carries a plan over to a ward that has changed.
     Carry(Carry<'a>),
-    /// Writes a solution's timetable as a table.
+    /// Writes a solution's timetable as a table or a calendar.
     Table(Table<'a>),
     /// Says why an instance has no feasible timetable.
     Why(Why<'a>),
@@ -114,7 +114,7 @@ fn read_named<'a>(alloc: Global, name: &str, words: &'a [String]) -> Result<Comm
 ///   `clap` finds a fault, two file names are equal, a freeze day comes without the file of a start or with `--fill`,
 ///   seconds come with attempts, or `--empty` with `--start` or `--fill`, `--keep`, `--pin` or `--pin-nurses` as a freeze
 ///   day does, the heat would rise, the workers together would make more than `MAX_CALL_ATTEMPTS` attempts, `--from` names
-///   no day, or `--of` no subject.
+///   no day, `--of` no subject, or a calendar comes without `--from`.
 /// - `OutOfMemory` where memory ran out.
 pub fn read_words<'a>(alloc: Global, words: &'a [String]) -> Result<Command<'a>, NoCall>
     ensures ok { IfOk result (λ c. call_of (map string_bytes words.entry.now) ≡ Some (command_call c)) }

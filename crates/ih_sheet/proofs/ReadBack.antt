@@ -1,6 +1,6 @@
 -- What is written is read back.
 use Rattle.std.proofs.Common.{◌≡◌, ℕ, refl, sym, subst, Bool, true, false, List, [], ◌∷◌, ◌++◌, map, Option, Some, None}
-use Rattle.std.specs.Prelude.{if◌then◌else◌, slice_get}
+use Rattle.std.specs.Prelude.{IfSome, if◌then◌else◌, slice_get}
 use Rattle.std.specs.Option.{option_map_or}
 use Rattle.std.specs.List.{AllByRecursion, flat_map, range_with_len}
 use Rattle.csv.specs.Reading.{AreRecords, Reached, default_config, strip_bom}
@@ -17,7 +17,7 @@ use Rattle.ih_plan.specs.declared.moves.Placement.{Placement}
 use Rattle.ih_plan.specs.Costs.{operated}
 use Rattle.ih_plan.specs.Timetable.{Timetable, stay_of}
 use Rattle.ih_sheet.specs.declared.subjects.Subject.{Subject}
-use Rattle.ih_sheet.specs.declared.subjects.Subject.TheVariants.{Nurses, Patients, Rooms, Theatres}
+use Rattle.ih_sheet.specs.declared.subjects.Subject.TheVariants.{Calendar, Nurses, Patients, Rooms, Theatres}
 use Rattle.ih_sheet.specs.Laws.{TableReadsBack}
 use Rattle.ih_sheet.specs.Rows.{Row, is_shown, nurse_row, patient_fields, patient_row, room_row, rows_of_day, rows_of_nurse, rows_of_room, rows_of_theatre, surgery_fields, surgery_row}
 use Rattle.ih_sheet.specs.Sheets.{rows_of, sheet_text}
@@ -47,6 +47,12 @@ nothing-more = refl
 
 are-records : (rows : List Row) → HaveFields rows → AreRecords default_config StartRecord (sheet_text rows) rows
 are-records rows h = (StartRecord, [], rows-reached rows h, nothing-more)
+
+rows-back : (o : Option (List Row)) → IfSome o (λ rows. strip_bom (sheet_text rows) ≡ sheet_text rows) → IfSome o HaveFields
+    → IfSome o (λ rows. AreRecords default_config StartRecord (strip_bom (sheet_text rows)) rows)
+rows-back None unmarked have = tt
+rows-back (Some rows) unmarked have =
+    subst (λ (text : List ℕ). AreRecords default_config StartRecord text rows) (sym unmarked) (are-records rows have)
 
 -- ---- the rows of tables have fields
 
@@ -102,20 +108,21 @@ module _ (I : Draft) (dates : List (Option Date)) (P : Timetable) where
   theatre-rows-have t = all-flat (rows_of_day I dates P t)
       (λ d. all-mapped (surgery_row I dates t d) (surgery-has I dates t d) (operated I P t d)) (range_with_len 0 I.days)
 
-  table-has : (of : Subject) → HaveFields (rows_of of I dates P)
+  table-has : (of : Subject) → IfSome (rows_of of I dates P) HaveFields
   table-has Patients = (tt, all-flat (λ p. patient_row I dates P p ∷ []) (λ p. (patient-has I dates P p, tt)) (range_with_len 0 (patient_count I)))
   table-has Nurses = (tt, all-flat (rows_of_nurse I dates P) nurse-rows-have (range_with_len 0 (nurse_count I)))
   table-has Rooms = (tt, all-flat (rows_of_room I dates P) room-rows-have (range_with_len 0 (room_count I)))
   table-has Theatres = (tt, all-flat (rows_of_theatre I dates P) theatre-rows-have (range_with_len 0 (theatre_count I)))
+  table-has Calendar = tt
 
   -- a table begins with its heading, and no heading with the mark of a byte order
-  no-mark : (of : Subject) → strip_bom (sheet_text (rows_of of I dates P)) ≡ sheet_text (rows_of of I dates P)
+  no-mark : (of : Subject) → IfSome (rows_of of I dates P) (λ rows. strip_bom (sheet_text rows) ≡ sheet_text rows)
   unfolding csv_on_literals strip_bom
   no-mark Patients = refl
   no-mark Nurses = refl
   no-mark Rooms = refl
   no-mark Theatres = refl
+  no-mark Calendar = tt
 
   pub table-read-back : (of : Subject) → TableReadsBack of I dates P
-  table-read-back of =
-      subst (λ (text : List ℕ). AreRecords default_config StartRecord text (rows_of of I dates P)) (sym (no-mark of)) (are-records (rows_of of I dates P) (table-has of))
+  table-read-back of = rows-back (rows_of of I dates P) (no-mark of) (table-has of)

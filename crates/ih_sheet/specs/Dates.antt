@@ -16,6 +16,10 @@ pub record AreDates (first : Option Date) (days : ℕ) (dates : List (Option Dat
   pub len : length dates ≡ days
   pub each : (d : ℕ) (date : Option Date) → slice_get dates d ≡ Some date → IsDateOf first d date
 
--- the date of day d as 2026-01-05, and no text where there is none
+-- the date of day d, where there is one
+abbrev pub known_date : List (Option Date) → ℕ → Option Date
+known_date dates d = option_flatten (slice_get dates d)
+
+-- the same as 2026-01-05, and no text where there is none
 abbrev pub date_at : List (Option Date) → ℕ → List ℕ
-date_at dates d = option_map_or date_text (option_flatten (slice_get dates d)) []
+date_at dates d = option_map_or date_text (known_date dates d) []

@@ -1,6 +1,6 @@
 //! What a table is about.
 
-/// What the rows of a table are about.
+/// What a table is about.
 #[derive(Clone, Copy, Debug, PartialEq, Eq)]
 pub enum Subject {
     /// A row for each patient.
@@ -11,4 +11,6 @@ pub enum Subject {
     Rooms,
     /// A row for each surgery, by theatre and day.
     Theatres,
+    /// An event of a calendar for each surgery, likewise.
+    Calendar,
 }

@@ -19,8 +19,8 @@ fn heading(alloc: Global) -> Result<StringRecord, AllocError>
     StringRecord::from_fields(alloc, names.as_slice())
 }
 
-// Whether the patient has surgery in the theatre on the day.
-fn is_operated(shown: &Shown<'_>, theatre: TheatreNo, day: u32, patient: PatientNo) -> bool
+/// Whether the patient has surgery in the theatre on the day.
+pub fn is_operated(shown: &Shown<'_>, theatre: TheatreNo, day: u32, patient: PatientNo) -> bool
     requires { patient.0 < patient_count shown.now.inst.now.draft }
     ensures { result ≡ operated_in theatre.0 day (stay_of shown.now.plan.now patient.0) }
 {

@@ -1,5 +1,5 @@
 -- The command `table`: its description for `clap`, its values and what it comes to.
-use Rattle.std.specs.Prelude.{◌≡◌, ◌&&◌, ℕ, Bool, true, List, [], ◌∷◌, Option, Some, None, codes, if◌then◌else◌, is_some, option_and_then, option_map, unwrap_or}
+use Rattle.std.specs.Prelude.{◌≡◌, ◌&&◌, ◌||◌, ℕ, Bool, true, false, not, List, [], ◌∷◌, Option, Some, None, codes, if◌then◌else◌, is_some, option_and_then, option_map, unwrap_or}
 use Rattle.std.specs.Option.{option_map_or}
 use Rattle.std.specs.Str.{bytes_eq}
 use Rattle.clap.specs.Words.{App, Row, Text, first_of, with_rule}
@@ -10,7 +10,7 @@ use Rattle.ih_arguments.specs.Arguments.{files_app, named, optional}
 use Rattle.ih_arguments.specs.Distinct.{all_differ}
 use Rattle.ih_arguments.specs.Matches.{HasNames, text_at}
 use Rattle.ih_sheet.specs.declared.subjects.Subject.{Subject}
-use Rattle.ih_sheet.specs.declared.subjects.Subject.TheVariants.{Nurses, Patients, Rooms, Theatres}
+use Rattle.ih_sheet.specs.declared.subjects.Subject.TheVariants.{Calendar, Nurses, Patients, Rooms, Theatres}
 use Rattle.ih_sheet.specs.Sheets.{IsTable}
 use Rattle.ih_inputs.specs.Reading.{Given, InputFiles}
 use Rattle.ih_endings.specs.declared.status.Role.TheVariants.{Out}
@@ -32,7 +32,7 @@ pub record TableCall : Type 0 where
   pub out : Text
   -- the date of the first day
   pub from : Option DateParts
-  -- what the rows are about
+  -- what the table is about
   pub of : Subject
 
 -- the call that the values of table stand for
@@ -67,7 +67,8 @@ subject_in word =
     else (if bytes_eq word (codes "nurses") then Some Nurses
     else (if bytes_eq word (codes "rooms") then Some Rooms
     else (if bytes_eq word (codes "theatres") then Some Theatres
-    else None)))
+    else (if bytes_eq word (codes "calendar") then Some Calendar
+    else None))))
 
 -- the subject that the word of `--of` names, if it names one: patients, where there is no word
 abbrev pub subject_at : List Row → Option Subject
@@ -87,9 +88,22 @@ table_in rows = record {
 abbrev pub table_files : TableCall → List Text
 table_files t = t.instance ∷ t.solution ∷ t.out ∷ []
 
--- the words of `--from` and `--of` name a day and a subject, where there are such words
+-- all that is there of the subject has a date
+abbrev pub needs_dates : Subject → Bool
+needs_dates Patients = false
+needs_dates Nurses = false
+needs_dates Rooms = false
+needs_dates Theatres = false
+needs_dates Calendar = true
+
+-- the first day has its date, where there would be nothing without
+abbrev pub has_dates : TableCall → Bool
+has_dates t = is_some t.from || not (needs_dates t.of)
+
+-- the words of `--from` and `--of` name a day and a subject, where there are such words, and the first is there for a
+-- calendar
 abbrev pub has_table_words : List Row → Bool
-has_table_words rows = names_a_day rows && is_some (subject_at rows)
+has_table_words rows = names_a_day rows && (is_some (subject_at rows) && has_dates (table_in rows))
 
 -- the call of table, by `clap`'s matches, where its file names differ and its words are such
 abbrev pub lawful_table : List Row → Option TableCall

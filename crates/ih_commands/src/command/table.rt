@@ -5,8 +5,9 @@ ghost use Rattle.clap.specs.Words.{first_of, found_of, rows_of};
 ghost use Rattle.jiff.specs.Words.{date_parts};
 ghost use Rattle.ih_arguments.specs.{Distinct.all_differ, Explaining.IsNoHelp, Explaining.IsRead, Matches.call_by};
 ghost use Rattle.ih_commands.specs.Calls.Days.{date_in};
-ghost use Rattle.ih_commands.specs.Calls.Table.{HasTableNames, IsTabled, has_table_words, lawful_table, subject_at};
-ghost use Rattle.ih_commands.specs.Calls.Table.{subject_in, table_app, table_call, table_files, table_in, table_inputs};
+ghost use Rattle.ih_commands.specs.Calls.Table.{HasTableNames, IsTabled, has_dates, has_table_words, lawful_table};
+ghost use Rattle.ih_commands.specs.Calls.Table.{needs_dates, subject_at, subject_in, table_app, table_call, table_files};
+ghost use Rattle.ih_commands.specs.Calls.Table.{table_in, table_inputs};
 
 use crate::command::common::{INSTANCE, SOLUTION};
 use crate::command::days::{FROM, first_day, no_day, refused_day};
@@ -36,14 +37,14 @@ pub struct Table<'a> {
     pub out: &'a str,
     /// The date of the first day.
     pub from: Option<Date>,
-    /// What the rows are about.
+    /// What the table is about.
     pub of: Subject,
 }
 
 /// `table INSTANCE SOLUTION OUT [--from DATE] [--of SUBJECT]`.
 pub const TABLE: Description<'static, 'static> = Description {
     name: "table",
-    about: "Writes a solution's timetable as a table for a spreadsheet",
+    about: "Writes a solution's timetable as a table for a spreadsheet, or as a calendar",
     called: "ih_planner table",
     arguments: &[
         INSTANCE,
@@ -53,7 +54,7 @@ pub const TABLE: Description<'static, 'static> = Description {
         argument!(
             "of",
             Kind::Optional,
-            "What the rows are about: patients, nurses, rooms or theatres [default: patients]"
+            "What the rows are about: patients, nurses, rooms or theatres; or calendar, for an event a surgery [default: patients]"
         ),
     ],
 };
@@ -67,6 +68,7 @@ fn subject_in(word: &str) -> Option<Subject>
         "nurses" => Some(Subject::Nurses),
         "rooms" => Some(Subject::Rooms),
         "theatres" => Some(Subject::Theatres),
+        "calendar" => Some(Subject::Calendar),
         _ => None,
     }
 }
@@ -102,29 +104,49 @@ fn files_differ(table: &Table) -> bool
     names_differ(table.instance, table.solution, table.out, None)
 }
 
+// Whether all that is there of the subject has a date.
+fn needs_dates(of: Subject) -> bool
+    ensures { result ≡ needs_dates of }
+{
+    match of {
+        Subject::Patients | Subject::Nurses | Subject::Rooms | Subject::Theatres => false,
+        Subject::Calendar => true,
+    }
+}
+
+// Whether the first day has its date, where there would be nothing without.
+fn has_dates(table: &Table) -> bool
+    ensures { result ≡ has_dates (table_call table.now) }
+{
+    table.from.is_some() || !needs_dates(table.of)
+}
+
 // What is said of a word that names no subject.
 fn refused_subject(alloc: Global, word: &str) -> NoCall
     ensures { IsNoHelp result }
 {
-    match format!(in alloc; "'{word}' for '--of' is none of patients, nurses, rooms and theatres") {
+    match format!(in alloc; "'{word}' for '--of' is none of patients, nurses, rooms, theatres and calendar") {
         Ok(fault) => refused(alloc, fault.as_str()),
         Err(_) => NoCall::OutOfMemory,
     }
 }
 
-// What is said of words that name no day or no subject, where they don't.
+// What is said of words that name no day or no subject, or give a calendar no day, where they don't.
 fn refused_words(alloc: Global, matches: &ArgMatches, table: &Table) -> Option<NoCall>
-    requires { option_map date_parts table.now.from
-        ≡ option_and_then date_in (first_of (codes "from") (rows_of (found_of matches.now))) }
+    requires { table_call table.now ≡ table_in (rows_of (found_of matches.now)) }
     ensures none { not (is_some result) ≡ has_table_words (rows_of (found_of matches.now)) }
     ensures said { IfSome result IsNoHelp }
 {
     if let Some(word) = no_day(matches, &table.from) {
         return Some(refused_day(alloc, word));
     }
-    match subject_of(matches) {
-        Some(_) => None,
-        None => Some(refused_subject(alloc, text_of(matches, "of"))),
+    if subject_of(matches).is_none() {
+        return Some(refused_subject(alloc, text_of(matches, "of")));
+    }
+    if has_dates(table) {
+        None
+    } else {
+        Some(refused(alloc, "'--of calendar' wants '--from'"))
     }
 }
 

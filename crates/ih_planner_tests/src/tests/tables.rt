@@ -91,6 +91,56 @@ fn what_tables_say(rt: HostRuntime) {
     goes(&rt, rt.alloc(), TABLES);
 }
 
+// A calendar of two surgeries in the order of the theatres. In a name a semicolon, a comma, a backslash and a line feed
+// are escaped, and another control character is a space. What has no date isn't there. Each line ends in CR LF.
+const CALENDARS: &str = "
+> lay two admitted
+> change i two
+\"p0\"
+\"p;,\\\\\\n\\u0001\u{e9}\"
+> change s admitted
+\"p0\",\"admission_day\":0,\"room\":\"r0\",\"operating_theater\":\"t0\"
+\"p;,\\\\\\n\\u0001\u{e9}\",\"admission_day\":0,\"room\":\"r0\",\"operating_theater\":\"t1\"
+> change s s
+\"admission_day\":\"none\"
+\"admission_day\":1,\"room\":\"r1\",\"operating_theater\":\"t0\"
+> 0 table i s o --of calendar --from 2026-12-31
+> has o
+BEGIN:VCALENDAR\r
+VERSION:2.0\r
+PRODID:-//ih_planner//table//EN\r
+BEGIN:VEVENT\r
+UID:p1@ih_planner\r
+DTSTAMP:20270101T000000Z\r
+DTSTART;VALUE=DATE:20270101\r
+SUMMARY:p1\\, s0\\, 40 minutes\r
+LOCATION:t0\r
+DESCRIPTION:Room r1\r
+END:VEVENT\r
+BEGIN:VEVENT\r
+UID:p\\;\\,\\\\\\n \u{e9}@ih_planner\r
+DTSTAMP:20261231T000000Z\r
+DTSTART;VALUE=DATE:20261231\r
+SUMMARY:p\\;\\,\\\\\\n \u{e9}\\, s0\\, 60 minutes\r
+LOCATION:t1\r
+DESCRIPTION:Room r0\r
+END:VEVENT\r
+END:VCALENDAR\r
+> 0 table i s o --of calendar --from 9999-12-31
+> shows o
+PRODID:-//ih_planner//table//EN\r
+BEGIN:VEVENT\r
+UID:p\\;
+> lines o 12
+> says 1 table i s o --of calendar
+error: '--of calendar' wants '--from'…'--help'.
+";
+
+#[test]
+fn what_calendars_say(rt: HostRuntime) {
+    goes(&rt, rt.alloc(), CALENDARS);
+}
+
 // No table is written where a file is missing or refused, or where words name no call, which is explained. Help is given
 // to those who ask. A table whose write is to fail is cut off, which is said.
 const NO_TABLES: &str = "

@@ -9,4 +9,5 @@ returns-in_default c =
       other c.args.word.now _ c.in_default.not-nurses,
       other c.args.word.now _ c.in_default.not-rooms,
       other c.args.word.now _ c.in_default.not-theatres,
+      other c.args.word.now _ c.in_default.not-calendar,
     ) refl
