@@ -3,9 +3,10 @@
 ghost use Rattle.std.specs.Prelude.{◌≡◌, ◌<◌, ◌++◌, IfOk, OnOk, flat_map};
 ghost use Rattle.ih_tables.specs.Sizes.{patient_count, theatre_count};
 ghost use Rattle.ih_plan.specs.Costs.{operated};
-ghost use Rattle.ih_sheet.specs.Calendar.{calendar_text, event, events_of_day, events_of_theatre, line_text, room_of};
+ghost use Rattle.ih_sheet.specs.Calendar.{calendar_text, event, event_lines, events_of_day, events_of_theatre};
+ghost use Rattle.ih_sheet.specs.Calendar.{line_text, room_of};
 
-use crate::lines::{digits, escaped, put_line};
+use crate::lines::{digits, escaped, put_lines};
 use crate::names::{room_id, surgeon_id, theatre_id};
 use crate::shown::Shown;
 use crate::surgeries::is_operated;
@@ -23,8 +24,46 @@ fn room_of<'a>(shown: &Shown<'a>, patient: PatientNo) -> &'a str
     }
 }
 
+// Appends the lines of an event of these texts.
+fn put_event_lines<'t>(
+    out: &mut Vec<u8>,
+    day: &'t [u8],
+    patient: &'t [u8],
+    surgeon: &'t [u8],
+    minutes: &'t [u8],
+    theatre: &'t [u8],
+    room: &'t [u8],
+) -> Result<(), AllocError>
+    ensures { OnOk result (out.new.items ≡ out.old.items ++ flat_map line_text
+        (event_lines day.now patient.now surgeon.now minutes.now theatre.now room.now)) }
+{
+    let begin: &'t [u8] = b"BEGIN:VEVENT";
+    let end: &'t [u8] = b"END:VEVENT";
+    put_lines(
+        out,
+        &[
+            &[begin],
+            &[b"UID:", patient, b"@ih_planner"],
+            &[b"DTSTAMP:", day, b"T000000Z"],
+            &[b"DTSTART;VALUE=DATE:", day],
+            &[
+                b"SUMMARY:",
+                patient,
+                b"\\, ",
+                surgeon,
+                b"\\, ",
+                minutes,
+                b" minutes",
+            ],
+            &[b"LOCATION:", theatre],
+            &[b"DESCRIPTION:Room ", room],
+            &[end],
+        ],
+    )
+}
+
 // Appends the event of the patient's surgery in the theatre, on the day with these digits.
-#[tactic(auto, using(crate::proofs::CalendarSteps::calendar_steps), unfolding(crate::specs::Calendar::event))]
+#[tactic(auto, unfolding(crate::specs::Calendar::event))]
 fn put_event(
     alloc: Global,
     shown: &Shown<'_>,
@@ -45,25 +84,15 @@ fn put_event(
     let minutes = a.surgery_duration.to_string(alloc)?;
     let place = escaped(alloc, theatre_id(inst, theatre))?;
     let room = escaped(alloc, room_of(shown, patient))?;
-    put_line(out, &[b"BEGIN:VEVENT"])?;
-    put_line(out, &[b"UID:", id.as_slice(), b"@ih_planner"])?;
-    put_line(out, &[b"DTSTAMP:", day, b"T000000Z"])?;
-    put_line(out, &[b"DTSTART;VALUE=DATE:", day])?;
-    put_line(
+    put_event_lines(
         out,
-        &[
-            b"SUMMARY:",
-            id.as_slice(),
-            b"\\, ",
-            surgeon.as_slice(),
-            b"\\, ",
-            minutes.as_bytes(),
-            b" minutes",
-        ],
-    )?;
-    put_line(out, &[b"LOCATION:", place.as_slice()])?;
-    put_line(out, &[b"DESCRIPTION:Room ", room.as_slice()])?;
-    put_line(out, &[b"END:VEVENT"])
+        day,
+        id.as_slice(),
+        surgeon.as_slice(),
+        minutes.as_bytes(),
+        place.as_slice(),
+        room.as_slice(),
+    )
 }
 
 // Appends the events in a theatre on the day with these digits, by the number of the patient.
@@ -137,12 +166,17 @@ pub fn calendar(alloc: Global, shown: &Shown<'_>) -> Result<Vec<u8>, AllocError>
         ≡ calendar_text shown.now.inst.now.draft shown.now.dates.now shown.now.plan.now) }
 {
     let mut out = Vec::new(alloc);
-    put_line(&mut out, &[b"BEGIN:VCALENDAR"])?;
-    put_line(&mut out, &[b"VERSION:2.0"])?;
-    put_line(&mut out, &[b"PRODID:-//ih_planner//table//EN"])?;
+    put_lines(
+        &mut out,
+        &[
+            &[b"BEGIN:VCALENDAR"],
+            &[b"VERSION:2.0"],
+            &[b"PRODID:-//ih_planner//table//EN"],
+        ],
+    )?;
     for t in 0..shown.inst.theatres() {
         put_theatre(alloc, shown, TheatreNo(t), &mut out)?;
     }
-    put_line(&mut out, &[b"END:VCALENDAR"])?;
+    put_lines(&mut out, &[&[b"END:VCALENDAR"]])?;
     Ok(out)
 }

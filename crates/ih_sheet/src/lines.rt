@@ -1,6 +1,6 @@
 //! Texts and lines of an iCalendar file (RFC 5545).
 
-ghost use Rattle.std.specs.Prelude.{◌≡◌, ◌++◌, IfOk, OnOk, map};
+ghost use Rattle.std.specs.Prelude.{◌≡◌, ◌++◌, IfOk, OnOk, flat_map, map};
 ghost use Rattle.ih_sheet.specs.Calendar.{digits, escaped, escaped_byte, is_special, line_text};
 
 use jiff::civil::Date;
@@ -55,13 +55,25 @@ pub fn digits(alloc: Global, date: Date) -> Result<Vec<u8>, AllocError>
     Ok(text)
 }
 
-/// Appends a line of these parts.
+// Appends a line of these parts.
 #[tactic(auto, unfolding(crate::specs::Calendar::line_text))]
-pub fn put_line(out: &mut Vec<u8>, parts: &[&[u8]]) -> Result<(), AllocError>
+fn put_line(out: &mut Vec<u8>, parts: &[&[u8]]) -> Result<(), AllocError>
     ensures { OnOk result (out.new.items ≡ out.old.items ++ line_text (map (λ part. part.now) parts.now)) }
 {
     for part in parts {
         out.extend_from_slice(part)?;
     }
     out.extend_from_slice(b"\r\n")
+}
+
+/// Appends lines, each of its parts.
+#[tactic(auto, using(crate::proofs::CalendarSteps::calendar_steps))]
+pub fn put_lines(out: &mut Vec<u8>, lines: &[&[&[u8]]]) -> Result<(), AllocError>
+    ensures { OnOk result (out.new.items ≡ out.old.items ++ flat_map line_text
+        (map (λ line. map (λ part. part.now) line.now) lines.now)) }
+{
+    for line in lines {
+        put_line(out, line)?;
+    }
+    Ok(())
 }

@@ -125,7 +125,9 @@ fn has_dates(table: &Table) -> bool
 fn refused_subject(alloc: Global, word: &str) -> NoCall
     ensures { IsNoHelp result }
 {
-    match format!(in alloc; "'{word}' for '--of' is none of patients, nurses, rooms, theatres and calendar") {
+    match format!(in alloc;
+        "'{word}' for '--of' is none of patients, nurses, rooms, theatres and calendar"
+    ) {
         Ok(fault) => refused(alloc, fault.as_str()),
         Err(_) => NoCall::OutOfMemory,
     }
