@@ -7,5 +7,5 @@ use Rattle.ih_improve.proofs.improver.Improver.new.Goals as goal
 pub invariant_of-result : goal.invariant_of-result
 invariant_of-result c =
     begun-keeping c.args.inst.now.draft c.args.start.now _ c.args.settings.now c.of_bill.result c.in_ok-workers.workers.items c.requires.start c.requires.lawful
-    (c.of_bill.ensures ∙ ap (λ (b : Bill). of_bill b) c.costs-bill.ensures.value) c.in_ok-workers.ensures.count c.in_ok-workers.ensures.instance c.in_ok-workers.ensures.stands
+    (c.of_bill.ensures ∙ ap (λ (b : Bill). of_bill b) c.bill-costs.ensures.value) c.in_ok-workers.ensures.count c.in_ok-workers.ensures.instance c.in_ok-workers.ensures.stands
     c.in_ok-try_clone.field-0 c.in_ok-try_clone-2.field-0 c.in_ok-try_clone.ensures c.in_ok-try_clone-2.ensures
