@@ -4,7 +4,7 @@ ghost use Rattle.std.specs.Prelude.{◌≡◌, IfOk, map, string_bytes};
 ghost use Rattle.clap.specs.Words.{found_of, rows_of};
 ghost use Rattle.ih_arguments.specs.{Explaining.IsRead, Matches.call_by};
 ghost use Rattle.ih_commands.specs.Calls.Why.{IsExplained, lawful_why, nothing_text, why_app, why_call, why_in};
-ghost use Rattle.ih_commands.specs.Calls.Why.{why_inputs, why_text};
+ghost use Rattle.ih_commands.specs.Calls.Why.{says_nothing, why_inputs, why_text};
 
 use crate::command::bound::judged_status;
 use crate::command::common::INSTANCE;
@@ -54,6 +54,13 @@ pub(crate) fn read_why<'a>(alloc: Global, words: &'a [String]) -> Result<Why<'a>
     }
 }
 
+// An account says nothing.
+fn says_nothing(reasons: &[u8]) -> bool
+    ensures { result ≡ says_nothing reasons.now }
+{
+    reasons.is_empty()
+}
+
 // That nothing was found.
 fn nothing_text(alloc: Global) -> Result<Vec<u8>, AllocError>
     ensures { IfOk result (λ text. text.items ≡ nothing_text) }
@@ -101,7 +108,7 @@ impl<'w> ih_frame::Command for Why<'w> {
         // For the proof alone.
         reasons_are_true(inst);
         let reasons = account(alloc, inst)?;
-        let status = judged_status(reasons.is_empty());
+        let status = judged_status(says_nothing(reasons.as_slice()));
         let text = why_text(alloc, reasons)?;
         Ok(Outcome::said(alloc, status, text))
     }

@@ -13,7 +13,7 @@ returns-clause-comes g c =
     let reasons : List ℕ = c.in_ok-reasons.reasons.items in
     let told : reasons ≡ account I = c.in_ok-reasons.ensures ∙ ap account same in
     let law : ReasonsAreTrue I = subst ReasonsAreTrue same c.reasons_are_true.ensures in
-    let none = c.is_empty.ensures ∙ ap says_nothing told in
+    let none = c.says_nothing.ensures ∙ ap says_nothing (c.as_slice.ensures.value ∙ told) in
     record {
       said = c.said.ensures.outcome
           ∙ ap₂ says (c.judged_status-status.ensures.value ∙ ap judged_status none) (c.in_ok-text.ensures ∙ ap why_text told);
