@@ -14,7 +14,8 @@ use Rattle.ih_plan.specs.Presence.{day_of}
 use Rattle.ih_plan.specs.Timetable.{Timetable, IsPlanOf, choice_of, stay_of}
 use Rattle.ih_plan.proofs.PlanRanges.{expand-writes}
 use Rattle.ih_plan.specs.Frozen.{KeepsFrozen, is_before, is_frozen_write}
-use Rattle.ih_plan.proofs.Freezing.{agrees-put_all, neither}
+use Rattle.ih_plan.proofs.Freezing.{agrees-put_all}
+use Rattle.ih_plan.proofs.Keeping.{neither}
 use Rattle.ih_improve.specs.Frozen.{may_be_frozen}
 use Rattle.ih_improve.proofs.FreeWrites.{both, if-free, restay-free, run-free, swap-free}
 

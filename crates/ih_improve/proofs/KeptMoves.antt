@@ -5,7 +5,7 @@ use Rattle.ih_plan.specs.declared.moves.Move.{Move}
 use Rattle.ih_plan.specs.Expand.{IsMoveOf, after}
 use Rattle.ih_plan.specs.Series.{AreMoves, after_all}
 use Rattle.ih_plan.specs.Timetable.{Timetable}
-use Rattle.ih_plan.proofs.Freezing.{neither}
+use Rattle.ih_plan.proofs.Keeping.{neither}
 use Rattle.ih_plan.proofs.PlanRanges.{after-plan}
 use Rattle.ih_improve.specs.Following.{MayStand}
 use Rattle.ih_improve.specs.Frozen.{may_be_frozen}

@@ -1,6 +1,6 @@
 -- Moves that leave what is pinned as it is.
 use Rattle.std.proofs.Common.{◌≡◌, ◌∙◌, ℕ, zero, suc, ◌+◌, ◌<◌, ◌≤◌, refl, sym, ap, arith, inl, inr, Bool, true, false, List, [], ◌∷◌, Option, Some, None}
-use Rattle.std.specs.Prelude.{◌||◌, ◌&&◌, ◌==◌, ◌≢◌, option_map}
+use Rattle.std.specs.Prelude.{◌||◌, ◌&&◌, ◌==◌}
 use Rattle.std.specs.List.{list_any, range_with_len}
 use Rattle.std.proofs.lemmas.Bool.{and_parts, cases_lt, leb-true, ltb-true}
 use Rattle.ih_tables.specs.declared.drafts.Draft.{Draft}
@@ -13,54 +13,22 @@ use Rattle.ih_plan.specs.declared.moves.Move.{Move}
 use Rattle.ih_plan.specs.declared.moves.Move.TheVariants.{Idle, Place, Withdraw, SetDay, SetRoom, SetTheatre, SwapRooms, Nurse, NurseRun, SwapNurses}
 use Rattle.ih_plan.specs.declared.moves.Placement.{Placement}
 use Rattle.ih_plan.specs.declared.moves.Write.{Write}
-use Rattle.ih_plan.specs.declared.moves.Write.TheVariants.{SetStay, SetCare}
+use Rattle.ih_plan.specs.declared.moves.Write.TheVariants.{SetCare}
 use Rattle.ih_plan.specs.Expand.{IsMoveOf, after, expand, in_run, swap_stays}
 use Rattle.ih_plan.specs.Presence.{covers, day_of}
+use Rattle.ih_plan.specs.Kept.{is_write_of_kept}
 use Rattle.ih_plan.specs.Timetable.{Timetable, IsPlanOf, choice_of, stay_of}
-use Rattle.ih_plan.specs.Writes.{AreWritesOf, IsWriteOf, put, put_all}
-use Rattle.ih_plan.proofs.Entries.{care_of-other, stay_of-other}
-use Rattle.ih_plan.proofs.Freezing.{neither}
-use Rattle.ih_plan.proofs.PlanRanges.{expand-writes, put-plan}
+use Rattle.ih_plan.proofs.Keeping.{keeps-put_all, neither}
+use Rattle.ih_plan.proofs.PlanRanges.{expand-writes}
 use Rattle.ih_changes.specs.Changes.{is_occupied}
-use Rattle.ih_improve.specs.Pinned.{KeepsPinned, PinsState, is_pinned, is_pinned_on, is_run_pinned, may_be_pinned}
+use Rattle.ih_improve.specs.Pinned.{KeepsPinned, PinsState, is_pinned, is_pinned_on, is_run_pinned, may_be_pinned, pinned_choices}
 use Rattle.ih_improve.proofs.FreeWrites.{both, if-free, restay-free, run-free, swap-free}
 
 -- the write is of a choice that is pinned
-abbrev pub is_pinned_write : Draft → Timetable → PinsState → Write → Bool
-is_pinned_write I S pins (SetStay p s) = is_pinned pins p.0
-is_pinned_write I S pins (SetCare r k n) = is_pinned_on I S pins r.0 (day_of k.0)
-
--- a nurse is known by the number
-same-choice : (a b : Option NurseNo) → option_map (λ (n : NurseNo). n.0) a ≡ option_map (λ (n : NurseNo). n.0) b → a ≡ b
-same-choice None None h = refl
-same-choice None (Some m) h = absurd (let no : None ≡ Some m.0 = h in cc)
-same-choice (Some n) None h = absurd (let no : Some n.0 ≡ None = h in cc)
-same-choice (Some n) (Some m) h = ap (option_map (λ i. record { 0 = i })) h
-
-clash : (a : Bool) → a ≡ true → a ≡ false → ⊥
-clash a t f = let no : true ≡ false = sym t ∙ f in cc
+abbrev is_pinned_write : Draft → Timetable → PinsState → Write → Bool
+is_pinned_write I S pins = is_write_of_kept (pinned_choices I S pins)
 
 module _ (I : Draft) (S : Timetable) (pins : PinsState) where
-  keeps-put : (P : Timetable) (w : Write) → IsPlanOf I P → IsWriteOf I w → KeepsPinned I S pins P → is_pinned_write I S pins w ≡ false
-      → KeepsPinned I S pins (put w P)
-  keeps-put P (SetStay p s) plan fits agrees free = record {
-    stays = λ x on. stay_of-other P p s x (λ e. clash (is_pinned pins x) on (ap (is_pinned pins) e ∙ free)) ∙ agrees.stays x on;
-    nurses = agrees.nurses;
-  }
-  keeps-put P (SetCare r k n) plan fits agrees free = record {
-    stays = agrees.stays;
-    nurses = λ s l sh lh on. same-choice _ _ (care_of-other I P r k n s l plan fits.1 lh
-        (λ es el. clash (is_pinned_on I S pins s (day_of l)) on (ap (λ y. is_pinned_on I S pins y (day_of l)) es ∙ (ap (λ y. is_pinned_on I S pins r.0 (day_of y)) el ∙ free))))
-        ∙ agrees.nurses s l sh lh on;
-  }
-
-  keeps-put_all : (P : Timetable) (ws : List Write) → IsPlanOf I P → AreWritesOf I ws → KeepsPinned I S pins P
-      → list_any (is_pinned_write I S pins) ws ≡ false → KeepsPinned I S pins (put_all ws P)
-  keeps-put_all P [] plan fits agrees free = agrees
-  keeps-put_all P (w ∷ ws) plan fits agrees free =
-      let parts = neither (is_pinned_write I S pins w) (list_any (is_pinned_write I S pins) ws) free in
-      keeps-put_all (put w P) ws (put-plan I P w plan fits.0) fits.1 (keeps-put P w plan fits.0 agrees parts.0) parts.1
-
   -- what holds of no number of a range
   none-of : (f : ℕ → Bool) (d len x : ℕ) → list_any f (range_with_len d len) ≡ false → d ≤ x → x < d + len → f x ≡ false
   none-of f d zero x none low high = absurd (omega (arith, low, high))
@@ -109,4 +77,4 @@ module _ (I : Draft) (S : Timetable) (pins : PinsState) where
     -- a move that may change nothing of it
     pub keeps-move : (m : Move) → IsPlanOf I P → IsMoveOf I m → KeepsPinned I S pins P → may_be_pinned I S pins m ≡ false
         → KeepsPinned I S pins (after I P m)
-    keeps-move m plan fits agrees h = keeps-put_all P (expand I P m) plan (expand-writes I P m plan fits) agrees (writes-free m h)
+    keeps-move m plan fits agrees h = keeps-put_all I S (pinned_choices I S pins) P (expand I P m) plan (expand-writes I P m plan fits) agrees (writes-free m h)

@@ -7,6 +7,8 @@ use Rattle.std.proofs.lemmas.List.Sums.{fold_push}
 use Rattle.ih_tables.specs.declared.drafts.Draft.{Draft}
 use Rattle.ih_plan.specs.BillOf.{bill_of}
 use Rattle.ih_plan.specs.Timetable.{Timetable, IsPlanOf}
+use Rattle.ih_plan.proofs.Freezing.{start-agrees}
+use Rattle.ih_plan.proofs.Keeping.{start-keeps}
 use Rattle.ih_improve.specs.declared.comparing.Standing.{Standing}
 use Rattle.ih_improve.specs.declared.settings.Settings.{Settings}
 use Rattle.ih_improve.specs.declared.spans.Span.{Span}
@@ -16,7 +18,7 @@ use Rattle.ih_improve.specs.Following.{IsNoWorse, MayFollow, MayStand}
 use Rattle.ih_improve.specs.ImproverState.{ImproverState, Leads, MayGoOn, led_to, leg_of, terms_of}
 use Rattle.ih_improve.specs.Keeping.{IsKeeping, IsOf, StandsOn, StandsWell, best_met}
 use Rattle.ih_improve.specs.Legs.{IsLeg, Leaves}
-use Rattle.ih_improve.specs.Pinned.{PinsState}
+use Rattle.ih_improve.specs.Pinned.{PinsState, pinned_choices}
 use Rattle.ih_improve.specs.Settings.{IsLawful}
 use Rattle.ih_improve.specs.Terms.{Terms}
 use Rattle.ih_improve.proofs.BetterLemmas.{best-follows, follows-through, no_worse-same, none-counted}
@@ -50,8 +52,8 @@ best-more t P ws i x h is =
 pub start-stands : (t : Terms) → IsPlanOf t.instance t.start → MayStand t t.start
 start-stands t plan = record {
   plan = plan;
-  frozen = record { admitted = λ p h. refl; others = λ p h. h; nurses = λ r k rh kh before. refl };
-  pinned = record { stays = λ p h. refl; nurses = λ r k rh kh on. refl };
+  frozen = start-agrees t.instance t.start t.settings.freeze;
+  pinned = start-keeps t.instance t.start (pinned_choices t.instance t.start t.pins);
 }
 
 -- and may take its own place

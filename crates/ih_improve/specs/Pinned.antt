@@ -1,15 +1,15 @@
 -- Choices of the start that stay, whatever they cost or break, and moves that may change one.
-use Rattle.std.specs.Prelude.{◌≡◌, ℕ, Bool, true, false, ◌&&◌, ◌||◌, ◌<◌, List, map}
+use Rattle.std.specs.Prelude.{ℕ, Bool, false, ◌&&◌, ◌||◌, List, map}
 use Rattle.std.specs.List.{list_any, range_with_len}
 use Rattle.std.specs.Str.{bytes_eq}
 use Rattle.ih_tables.specs.declared.drafts.Draft.{Draft}
 use Rattle.ih_tables.specs.declared.drafts.Patient.{Patient}
 use Rattle.ih_tables.specs.Marks.{is_marked}
-use Rattle.ih_tables.specs.Sizes.{room_count, shift_count}
 use Rattle.ih_plan.specs.declared.moves.Move.{Move}
 use Rattle.ih_plan.specs.declared.moves.Move.TheVariants.{Idle, Place, Withdraw, SetDay, SetRoom, SetTheatre, SwapRooms, Nurse, NurseRun, SwapNurses}
 use Rattle.ih_plan.specs.Presence.{day_of}
-use Rattle.ih_plan.specs.Timetable.{Timetable, choice_of, stay_of}
+use Rattle.ih_plan.specs.Kept.{Choices, KeepsChoices}
+use Rattle.ih_plan.specs.Timetable.{Timetable}
 use Rattle.ih_changes.specs.Changes.{is_occupied}
 
 -- which choices are pinned: the stays of the patients whose flag is set, and the nurses of all rooms that are occupied in
@@ -31,11 +31,13 @@ is_pinned pins p = is_marked pins.patients p
 abbrev pub is_pinned_on : Draft → Timetable → PinsState → ℕ → ℕ → Bool
 is_pinned_on I start pins r d = pins.nurses && is_occupied I start r d
 
+-- the choices that are pinned
+abbrev pub pinned_choices : Draft → Timetable → PinsState → Choices
+pinned_choices I start pins = record { stays = is_pinned pins; nurses = λ r k. is_pinned_on I start pins r (day_of k) }
+
 -- P agrees with the start on what is pinned
-pub record KeepsPinned (I : Draft) (start : Timetable) (pins : PinsState) (P : Timetable) : Type 0 where
-  pub stays : (p : ℕ) → is_pinned pins p ≡ true → stay_of P p ≡ stay_of start p
-  pub nurses : (r k : ℕ) → r < room_count I → k < shift_count I → is_pinned_on I start pins r (day_of k) ≡ true
-      → choice_of P r k ≡ choice_of start r k
+abbrev pub KeepsPinned : Draft → Timetable → PinsState → Timetable → Type 0
+KeepsPinned I start pins P = KeepsChoices I start (pinned_choices I start pins) P
 
 -- the nurse of room r on one of so many days from day d on is pinned
 abbrev pub is_run_pinned : Draft → Timetable → PinsState → ℕ → ℕ → ℕ → Bool

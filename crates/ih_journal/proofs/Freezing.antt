@@ -3,7 +3,7 @@ use Rattle.std.proofs.Common.{◌≡◌, refl, sym, subst, Bool, true, false, Li
 use Rattle.std.specs.Prelude.{if◌then◌else◌}
 use Rattle.ih_plan.specs.declared.moves.Move.{Move}
 use Rattle.ih_plan.specs.Timetable.{Timetable, IsPlanOf}
-use Rattle.ih_plan.proofs.Freezing.{agrees-put_all}
+use Rattle.ih_plan.proofs.Freezing.{agrees-put_all, start-agrees}
 use Rattle.ih_plan.proofs.Series.{after_all-writes, expand_all-writes}
 use Rattle.ih_plan.specs.Series.{AreMoves, after_all, expand_all}
 use Rattle.ih_journal.specs.Tried.{Tried}
@@ -12,7 +12,7 @@ use Rattle.ih_journal.specs.Frozen.{AgreesBefore, is_frozen}
 use Rattle.ih_journal.specs.History.{after_entry, is_accepted}
 
 pub agrees-start : (b : Base) → AgreesBefore b b.start
-agrees-start b = record { admitted = λ p h. refl; others = λ p h. h; nurses = λ r k rh kh before. refl }
+agrees-start b = start-agrees b.instance b.start b.freeze
 
 -- moves in a row of which none is frozen keep the frozen choices
 pub agrees-moves : (b : Base) (P : Timetable) (ms : List Move) → IsPlanOf b.instance P → AreMoves b.instance ms → AgreesBefore b P → is_frozen b P ms ≡ false

@@ -20,4 +20,5 @@ pub mod SumBounds
 pub mod SumLemmas
 pub mod ChangeSums
 pub mod Series
+pub mod Keeping
 pub mod Freezing

@@ -1,6 +1,7 @@
 -- How chains and rounds end, and what is written and said of that.
 use Rattle.std.proofs.Common.{◌≡◌, ◌∙◌, ℕ, ◌<◌, ◌^◌, refl, sym, ap, ap₂, subst, arith, false, true, length, List, Option, Some, None, [], ◌++◌}
 use Rattle.std.specs.Prelude.{ℤ, Result, Ok, Err, IfOk}
+use Rattle.std.proofs.lemmas.Bool.{ltb-true}
 use Rattle.std.proofs.lemmas.List.{length-map}
 use Rattle.ih_plan.specs.BillOf.{bill_of}
 use Rattle.ih_tables.specs.declared.drafts.Draft.{Draft}
@@ -10,6 +11,7 @@ use Rattle.ih_journal.specs.Settings.{IsLawful}
 use Rattle.ih_journal.specs.Base.{Base}
 use Rattle.ih_journal.specs.Best.{BestIs}
 use Rattle.ih_plan.specs.Frozen.{is_before}
+use Rattle.ih_plan.specs.Presence.{day_of}
 use Rattle.ih_journal.specs.Frozen.{AgreesBefore}
 use Rattle.ih_journal.specs.History.{plan_at}
 use Rattle.ih_cellbook.specs.Keeping.{base_with, IsBase}
@@ -37,11 +39,13 @@ use Rattle.ih_top.specs.Rounds.{FitsEnd, IsRoundSaid, round_report, HaveExactPri
 
 agrees-free : (b : Base) (P : Timetable) → b.freeze ≡ 0 → AgreesBefore b P
 agrees-free b P free = record {
-  admitted = λ p before.
-      let no : false ≡ true = sym (none-before (stay_of b.start p)) ∙ ap (λ n. is_before n (stay_of b.start p)) (sym free) ∙ before in
-      absurd cc;
+  kept = record {
+    stays = λ p before.
+        let no : false ≡ true = sym (none-before (stay_of b.start p)) ∙ ap (λ n. is_before n (stay_of b.start p)) (sym free) ∙ before in
+        absurd cc;
+    nurses = λ r k room shift early. absurd (omega (arith, ltb-true (day_of k) b.freeze early, free));
+  };
   others = λ p before. ap (λ n. is_before n (stay_of P p)) free ∙ none-before (stay_of P p);
-  nurses = λ r k room shift early. absurd (omega (arith, early, free));
 }
 
 run-agrees : (b : Base) (H : List ChainEntry) → b.freeze ≡ 0 → (k : ℕ) → AgreesBefore b (plan_at b (chain_tries H) k)
