@@ -12,6 +12,10 @@ pub record IsFeasible (I : Draft) (P : Timetable) : Type 0 where
   pub plan : IsPlanOf I P
   pub rules : feasible (bill_of I P) ≡ true
 
+-- no timetable of the instance is feasible
+abbrev pub NoneIsFeasible : Draft → Type 0
+NoneIsFeasible I = (P : Timetable) → IsFeasible I P → ⊥
+
 -- the outcome holds of a feasible timetable: there is none, or it costs at least so much
 abbrev pub Bounds : Draft → Timetable → Outcome → Type 0
 Bounds I P Infeasible = ⊥

@@ -16,9 +16,11 @@ use std::alloc::{AllocError, Global};
 use std::thread::Threads;
 
 /// The best that was found, in parts.
-#[derive(Clone, Copy)]
+#[derive(Drop)]
 pub struct Ascent {
     pub value: u64,
+    /// The prices that showed it. Nothing rests on them.
+    pub prices: Prices,
     /// How often prices were tried.
     pub rounds: u32,
     /// What the choices of the last rounds are worth on average.
@@ -72,5 +74,6 @@ fn ascend_by<R: Threads + Sync>(
         value: best,
         rounds,
         spent: climb.spent,
+        prices: climb.best_prices,
     })
 }

@@ -1,8 +1,8 @@
 //! The bound of an instance.
 
-ghost use Rattle.std.specs.Prelude.{◌≡◌, ◌≤◌, ◌+◌, ◌*◌, ◌<◌, IfOk};
+ghost use Rattle.std.specs.Prelude.{◌≡◌, ◌≤◌, ◌+◌, ◌*◌, ◌<◌, IfOk, IfSome};
 ghost use Rattle.ih_plan.specs.Timetable.{Timetable};
-ghost use Rattle.ih_bound.specs.Bounds.{IsFeasible, HoldsOfAll, AddUp, IsFoundIn};
+ghost use Rattle.ih_bound.specs.Bounds.{IsFeasible, NoneIsFeasible, HoldsOfAll, AddUp, IsFoundIn};
 ghost use Rattle.ih_bound.specs.Tariffs.{worth};
 
 use crate::ascending::{Ascent, ascend};
@@ -11,6 +11,7 @@ use crate::demand::Spent;
 use crate::outcomes::{Bound, Outcome, Parts};
 use crate::people::window_end;
 use crate::prices::Rates;
+use crate::scarcity::Scarcity;
 use ih_tables::{Instance, PatientNo, Shift};
 use std::alloc::{AllocError, Global};
 use std::thread::Threads;
@@ -112,6 +113,27 @@ fn in_units(best: &Ascent) -> Bound
     }
 }
 
+/// Whether what all persons need is worth more, at some prices, than all that there is: then no timetable of an
+/// instance is feasible, and those prices tell what may be scarce. Persons are dealt to so many workers, one at least.
+pub fn refute<R: Threads + Sync>(
+    rt: &R,
+    alloc: Global,
+    inst: &Instance,
+    workers: u32,
+) -> Result<Option<Scarcity>, AllocError>
+    requires few { workers ≤ 64 }
+    ensures { IfOk result (λ r. IfSome r (λ _. NoneIsFeasible inst.now.draft)) }
+{
+    let workers = workers.max(1) as usize;
+    let none = ascend(rt, alloc, inst, &Rates::none(), without_weights(), workers)?;
+    if none.value == 0 {
+        return Ok(None);
+    }
+    Ok(Some(Scarcity {
+        prices: none.prices,
+    }))
+}
+
 /// What no feasible timetable of an instance costs less than, or that there is none: the best that prices in so many
 /// rounds show, or in fewer where a round is dear. Persons are dealt to so many workers, one at least.
 pub fn bound<R: Threads + Sync>(
@@ -126,11 +148,10 @@ pub fn bound<R: Threads + Sync>(
     ensures parts { IfOk result AddUp }
     ensures rounds { IfOk result (IsFoundIn rounds) }
 {
-    let workers = workers.max(1) as usize;
-    let none = ascend(rt, alloc, inst, &Rates::none(), without_weights(), workers)?;
-    if none.value > 0 {
+    if refute(rt, alloc, inst, workers)?.is_some() {
         return Ok(Outcome::Infeasible);
     }
+    let workers = workers.max(1) as usize;
     let rates = Rates::weights(inst);
     let effort = with_weights(inst, &rates, rounds_within(inst, rounds));
     let best = ascend(rt, alloc, inst, &rates, effort, workers)?;

@@ -39,7 +39,8 @@ struct Pace {
 #[derive(Drop)]
 pub struct Climb {
     pub prices: Prices,
-    best_prices: Prices,
+    /// Those of the best value so far.
+    pub best_prices: Prices,
     best: u64,
     plain: u32,
     pace: Pace,
@@ -102,27 +103,39 @@ impl Climb {
         }
     }
 
-    // Goes back to the best prices, with steps of that length.
+    // Goes back to the best prices, with steps of that length. What was asked for at others is forgotten.
     fn go_back(&mut self, step_length: u64) {
         self.pace = Pace {
             length: step_length,
             idle: 0,
         };
         copy(&self.best_prices, &mut self.prices);
+        self.directions.forget();
+    }
+
+    // Turns the directions by what is asked for; tells how far they go in all.
+    fn turn(&mut self, inst: &Instance, rates: &Rates, with_work: bool) -> u64 {
+        self.directions
+            .turn(inst, &self.demand, self.occupants.as_slice());
+        let size = self
+            .directions
+            .size(inst, rates, &self.prices)
+            .saturating_mul(256);
+        if !with_work {
+            return size;
+        }
+        self.directions
+            .turn_work(inst, rates, &self.demand, &self.prices);
+        size.saturating_add(self.directions.size_of_work() / 3)
     }
 
     // Moves the prices by what is asked for; tells whether any direction was left.
     fn step(&mut self, inst: &Instance, rates: &Rates, with_work: bool, gap: u64) -> bool {
-        self.directions
-            .turn(inst, &self.demand, self.occupants.as_slice());
-        let mut size = self
-            .directions
-            .size(inst, rates, &self.prices)
-            .saturating_mul(256);
-        if with_work {
-            self.directions
-                .turn_work(inst, rates, &self.demand, &self.prices);
-            size = size.saturating_add(self.directions.size_of_work() / 3);
+        let mut size = self.turn(inst, rates, with_work);
+        if size == 0 {
+            // Where the last rounds point to nothing, the demand of this one may.
+            self.directions.forget();
+            size = self.turn(inst, rates, with_work);
         }
         if size == 0 {
             return false;
@@ -135,7 +148,7 @@ impl Climb {
         self.directions.step(inst, rates, &mut self.prices, step);
         if with_work {
             let step = Step {
-                by: reach >> 12,
+                by: reach >> 11,
                 of: size.saturating_mul(3),
             };
             self.directions.step_work(rates, &mut self.prices, step);
@@ -164,9 +177,7 @@ impl Climb {
         }
         if self.pace.idle > PATIENCE {
             self.go_back(self.pace.length.saturating_mul(70) / 100);
-            if self.pace.length < SHORTEST {
-                return false;
-            }
+            return self.pace.length >= SHORTEST;
         }
         let with_work = round >= self.plain && rates.load > 0;
         let gap = effort.target.saturating_sub(value).max(10 * PARTS);

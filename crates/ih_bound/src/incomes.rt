@@ -24,8 +24,8 @@ fn total<F: Fn(u32) -> u64>(count: u32, each: F) -> u64
     sum
 }
 
-// How many persons all rooms are for.
-fn all_beds(inst: &Instance) -> u64
+/// How many persons all rooms are for.
+pub fn all_beds(inst: &Instance) -> u64
     ensures { result ≡ all_beds inst.now.draft }
 {
     let mut sum = 0;

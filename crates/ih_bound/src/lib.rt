@@ -16,11 +16,15 @@ mod numbers;
 mod outcomes;
 mod people;
 mod prices;
+mod scarcity;
 mod scratch;
+mod sharpening;
 mod stays;
 mod texts;
 
-pub use bounding::bound;
+pub use bounding::{bound, refute};
 pub use judging::{Judged, judge, no_infeasibility};
 pub use outcomes::{Bound, Outcome, Parts};
+pub use scarcity::{Dear, Scarcity, Thing, dearest};
+pub use sharpening::sharpen;
 pub use texts::{bound_text, put_gap, put_limit};

@@ -8,9 +8,6 @@ use ih_tables::{Instance, NurseNo, RoomNo, Shift, SurgeonNo, TheatreNo};
 use ih_validate::{Resource, limit_of};
 use std::alloc::{AllocError, Global};
 
-// Minutes are counted in this unit where directions are compared.
-const MINUTES: u64 = 60;
-
 /// By how much each price wants to move: up or down, in parts of what is asked for too much or too little.
 #[derive(Clone, Copy)]
 pub struct Direction {
@@ -25,7 +22,7 @@ pub struct Step {
     pub of: u64,
 }
 
-/// The directions of the last rounds, smoothed, in lists like those of prices; a theatre's by day alone.
+/// The directions of the last rounds, smoothed, in lists like those of prices.
 #[derive(Drop)]
 pub struct Directions {
     bed: Vec<Direction>,
@@ -44,6 +41,12 @@ fn stills(alloc: Global, count: usize) -> Result<Vec<Direction>, AllocError> {
     Ok(list)
 }
 
+fn still(list: &mut [Direction]) {
+    for x in list.iter_mut() {
+        *x = STILL;
+    }
+}
+
 fn direction_at(list: &[Direction], index: usize) -> Direction {
     match list.get(index) {
         Some(x) => *x,
@@ -51,25 +54,45 @@ fn direction_at(list: &[Direction], index: usize) -> Direction {
     }
 }
 
-// Keeps so many parts of the old direction and adds so many times what is asked for above what there is.
-fn smooth(
-    list: &mut [Direction],
-    index: usize,
-    asked: u64,
-    supply: u64,
+// How a direction turns: how many parts of the old one it keeps, and in which unit amounts are counted.
+#[derive(Clone, Copy)]
+struct Turn {
     keep: u64,
     of: u64,
-    times: u64,
-) {
-    let old = direction_at(list, index);
-    let up = (old.up.saturating_mul(keep) / of.max(1)).saturating_add(
-        asked.saturating_sub(supply).saturating_mul(times),
-    );
-    let down = (old.down.saturating_mul(keep) / of.max(1)).saturating_add(
-        supply.saturating_sub(asked).saturating_mul(times),
-    );
-    let both = up.min(down);
+    unit: u64,
+}
+
+const BEDS: Turn = Turn {
+    keep: 3,
+    of: 4,
+    unit: 1,
+};
+
+const MINUTES: Turn = Turn {
+    keep: 3,
+    of: 4,
+    unit: 60,
+};
+
+const LOADS: Turn = Turn {
+    keep: 15,
+    of: 16,
+    unit: 1,
+};
+
+// A part of the old size, and 16 times what an amount is above another. This isn't rounded before it is multiplied.
+fn turned(old: u64, more: u64, less: u64, turn: Turn) -> u64 {
+    let kept = old.saturating_mul(turn.keep) / turn.of.max(1);
+    let new = more.saturating_sub(less).saturating_mul(16) / turn.unit.max(1);
+    kept.saturating_add(new)
+}
+
+// Turns the direction at a place by what is asked for and what there is.
+fn smooth(list: &mut [Direction], index: usize, asked: u64, supply: u64, turn: Turn) {
     if let Some(x) = list.get_mut(index) {
+        let up = turned(x.up, asked, supply, turn);
+        let down = turned(x.down, supply, asked, turn);
+        let both = up.min(down);
         *x = Direction {
             up: up.saturating_sub(both),
             down: down.saturating_sub(both),
@@ -140,49 +163,38 @@ impl Directions {
         Ok(Directions {
             bed: stills(alloc, days)?,
             surgeon: stills(alloc, days * inst.surgeons() as usize)?,
-            theatre: stills(alloc, days)?,
+            theatre: stills(alloc, days * inst.theatres() as usize)?,
             work: stills(alloc, inst.shifts() as usize * inst.nurses() as usize)?,
         })
     }
 
-    // The minutes of all theatres on a day: asked for, and available.
-    fn turn_theatres(&mut self, inst: &Instance, demand: &Demand, day: u32) {
-        let mut asked: u64 = 0;
-        let mut supply: u64 = 0;
-        for t in 0..inst.theatres() {
-            asked = asked.saturating_add(at(
-                demand.amounts.theatre.as_slice(),
-                place(inst.days(), t, day),
-            ));
-            supply = supply.saturating_add(limit_of(inst, Resource::OfTheatre(TheatreNo(t)), day));
-        }
-        let list = self.theatre.as_mut_slice();
-        smooth(
-            list,
-            day as usize,
-            asked / MINUTES,
-            supply / MINUTES,
-            3,
-            4,
-            16,
-        );
+    /// Drops what the last rounds left: no price moves.
+    pub fn forget(&mut self) {
+        still(self.bed.as_mut_slice());
+        still(self.surgeon.as_mut_slice());
+        still(self.theatre.as_mut_slice());
+        still(self.work.as_mut_slice());
     }
 
     /// Turns those of beds and minutes by the demand of a round.
     pub fn turn(&mut self, inst: &Instance, demand: &Demand, persons: &[u64]) {
         let beds = beds(inst);
+        let amounts = &demand.amounts;
         for d in 0..inst.days() {
-            let asked = at(demand.amounts.bed.as_slice(), d as usize).saturating_add(at(
-                persons, d as usize,
-            ));
-            smooth(self.bed.as_mut_slice(), d as usize, asked, beds, 3, 4, 16);
-            self.turn_theatres(inst, demand, d);
+            let i = d as usize;
+            let asked = at(amounts.bed.as_slice(), i).saturating_add(at(persons, i));
+            smooth(self.bed.as_mut_slice(), i, asked, beds, BEDS);
+            for t in 0..inst.theatres() {
+                let i = place(inst.days(), t, d);
+                let asked = at(amounts.theatre.as_slice(), i);
+                let supply = limit_of(inst, Resource::OfTheatre(TheatreNo(t)), d);
+                smooth(self.theatre.as_mut_slice(), i, asked, supply, MINUTES);
+            }
             for s in 0..inst.surgeons() {
                 let i = place(inst.days(), s, d);
-                let asked = at(demand.amounts.surgeon.as_slice(), i);
+                let asked = at(amounts.surgeon.as_slice(), i);
                 let supply = limit_of(inst, Resource::OfSurgeon(SurgeonNo(s)), d);
-                let list = self.surgeon.as_mut_slice();
-                smooth(list, i, asked / MINUTES, supply / MINUTES, 3, 4, 16);
+                smooth(self.surgeon.as_mut_slice(), i, asked, supply, MINUTES);
             }
         }
     }
@@ -200,7 +212,7 @@ impl Directions {
                 let price = at(prices.work.as_slice(), i);
                 let stuck = (price == 0 && asked < most) || (price >= rates.load && asked > most);
                 let supply = if stuck { asked } else { most };
-                smooth(self.work.as_mut_slice(), i, asked, supply, 15, 16, 16);
+                smooth(self.work.as_mut_slice(), i, asked, supply, LOADS);
             }
         }
     }
@@ -212,10 +224,13 @@ impl Directions {
             let i = d as usize;
             let bed = direction_at(self.bed.as_slice(), i);
             sum = sum.saturating_add(square(bed, at(prices.bed.as_slice(), i), 0, MOST_FOR_BED));
-            let theatre = direction_at(self.theatre.as_slice(), i);
-            let low = opening(inst, rates, 0, d);
-            let price = at(prices.theatre.as_slice(), i);
-            sum = sum.saturating_add(square(theatre, price, low, MOST_FOR_MINUTE));
+            for t in 0..inst.theatres() {
+                let i = place(inst.days(), t, d);
+                let theatre = direction_at(self.theatre.as_slice(), i);
+                let low = opening(inst, rates, t, d);
+                let price = at(prices.theatre.as_slice(), i);
+                sum = sum.saturating_add(square(theatre, price, low, MOST_FOR_MINUTE));
+            }
             for s in 0..inst.surgeons() {
                 let i = place(inst.days(), s, d);
                 let surgeon = direction_at(self.surgeon.as_slice(), i);
@@ -240,16 +255,16 @@ impl Directions {
     pub fn step(&self, inst: &Instance, rates: &Rates, prices: &mut Prices, step: Step) {
         let by_minute = Step {
             by: step.by,
-            of: step.of.saturating_mul(MINUTES),
+            of: step.of.saturating_mul(MINUTES.unit),
         };
         for d in 0..inst.days() {
             let i = d as usize;
             let bed = direction_at(self.bed.as_slice(), i);
             let price = moved(at(prices.bed.as_slice(), i), bed, step, 0, MOST_FOR_BED);
             put(prices.bed.as_mut_slice(), i, price);
-            let theatre = direction_at(self.theatre.as_slice(), i);
             for t in 0..inst.theatres() {
                 let i = place(inst.days(), t, d);
+                let theatre = direction_at(self.theatre.as_slice(), i);
                 let low = opening(inst, rates, t, d);
                 let old = at(prices.theatre.as_slice(), i);
                 let price = moved(old, theatre, by_minute, low, MOST_FOR_MINUTE);

@@ -9,7 +9,8 @@ use crate::scratch::Scratch;
 use crate::stays::{Stay, care_price};
 use ih_tables::{Instance, NurseNo, Shift};
 
-const PASSES: u64 = 4;
+// In how many passes numbers rise at most. Most are at their ends after a few.
+const PASSES: u32 = 12;
 
 // Where the costs of a shift of the stay begin.
 #[inline(always)]
@@ -59,21 +60,39 @@ fn begin_shift(
     put(scratch.numbers.as_mut_slice(), shift as usize, least);
 }
 
-// How far a shift's number may rise: to where a nurse's slack ends; and which nurse's.
-fn highest(working: &[NurseNo], begin: usize, old: u64, scratch: &Scratch) -> (u64, u32) {
-    let mut highest = u64::MAX;
-    let mut holder = u32::MAX;
+// How far a shift's number may rise.
+#[derive(Clone, Copy)]
+struct Rise {
+    // Where the first nurse's slack ends.
+    end: u64,
+    // Which nurse that is.
+    holder: u32,
+    // The next greater cost of a nurse, from where on that nurse's slack is taken too.
+    level: u64,
+}
+
+fn rise_from(old: u64, working: &[NurseNo], begin: usize, scratch: &Scratch) -> Rise {
+    let mut rise = Rise {
+        end: u64::MAX,
+        holder: u32::MAX,
+        level: u64::MAX,
+    };
     let mut i = begin;
     for n in working {
-        let cost = at(scratch.costs.as_slice(), i).max(old);
-        let end = cost.saturating_add(at(scratch.slack.as_slice(), n.0 as usize));
-        if end < highest {
-            highest = end;
-            holder = n.0;
+        let cost = at(scratch.costs.as_slice(), i);
+        if cost > old {
+            rise.level = rise.level.min(cost);
+        }
+        let end = cost
+            .max(old)
+            .saturating_add(at(scratch.slack.as_slice(), n.0 as usize));
+        if end < rise.end {
+            rise.end = end;
+            rise.holder = n.0;
         }
         i = i.wrapping_add(1);
     }
-    (highest, holder)
+    rise
 }
 
 // Takes from the slack of each nurse what the nurse is spared as a shift's number rises.
@@ -90,28 +109,48 @@ fn take_slack(working: &[NurseNo], begin: usize, old: u64, new: u64, scratch: &m
     }
 }
 
-// Raises the number of a shift, by the limit at most.
-fn raise(inst: &Instance, stay: &Stay<'_>, shift: u32, limit: u64, scratch: &mut Scratch)
+// Raises the number of a shift to its end, or only to the next cost of a nurse; tells whether it isn't at its end yet.
+fn raise(inst: &Instance, stay: &Stay<'_>, shift: u32, to_end: bool, scratch: &mut Scratch) -> bool
     requires { shift < shift_count inst.now.draft }
 {
     let working = inst.working(Shift(shift));
     let old = at(scratch.numbers.as_slice(), shift as usize);
     let begin = row(inst, stay, shift);
-    let (end, holder) = highest(working, begin, old, scratch);
+    let rise = rise_from(old, working, begin, scratch);
     put(
         scratch.holders.as_mut_slice(),
         shift as usize,
-        holder as u64,
+        rise.holder as u64,
     );
-    let new = end.min(old.saturating_add(limit));
+    let new = if to_end {
+        rise.end
+    } else {
+        rise.end.min(rise.level)
+    };
     if new > old {
         take_slack(working, begin, old, new, scratch);
         put(scratch.numbers.as_mut_slice(), shift as usize, new);
     }
+    new > old && new < rise.end
 }
 
-/// Chooses them: each begins at the least cost of its shift and rises in a few passes, in each but the last by a share
-/// of what a nurse is worth.
+// Raises each number once, those of shifts with the fewest nurses first; tells whether one isn't at its end yet.
+fn raise_all(inst: &Instance, stay: &Stay<'_>, to_end: bool, scratch: &mut Scratch) -> bool
+    requires { stay.now.last ≤ shift_count inst.now.draft }
+{
+    let mut more = false;
+    for i in 0..scratch.order.len() {
+        let k = at(scratch.order.as_slice(), i);
+        if k >= stay.first as u64 && k < stay.last as u64 {
+            let goes_on = raise(inst, stay, k as u32, to_end, scratch);
+            more = more || goes_on;
+        }
+    }
+    more
+}
+
+/// Chooses them: each begins at the least cost of its shift. In turn they rise from cost to cost, those of shifts with
+/// the fewest nurses first, since few can serve there, until each is at its end. In the last pass all rise to it.
 pub fn choose_numbers(
     inst: &Instance,
     rates: &Rates,
@@ -125,14 +164,9 @@ pub fn choose_numbers(
     for k in stay.first..stay.last {
         begin_shift(inst, rates, prices, stay, k, scratch);
     }
-    for pass in 0..PASSES + 1 {
-        let limit = if pass == PASSES {
-            u64::MAX
-        } else {
-            rates.nurse / PASSES
-        };
-        for k in stay.first..stay.last {
-            raise(inst, stay, k, limit, scratch);
+    for pass in 0..PASSES {
+        if !raise_all(inst, stay, pass + 1 == PASSES, scratch) {
+            return;
         }
     }
 }

@@ -2,7 +2,7 @@
 
 ghost use Rattle.std.specs.Prelude.{◌≡◌, ℕ, IfOk, slice_index};
 
-use ih_tables::{Instance, PatientNo};
+use ih_tables::{Instance, PatientNo, Shift};
 use std::alloc::{AllocError, Global};
 
 /// Numbers of shifts, and what else their choice needs; of any lengths.
@@ -12,6 +12,8 @@ pub struct Scratch {
     pub numbers: Vec<u64>,
     /// What care costs, by shift of the stay and place in its roster.
     pub costs: Vec<u64>,
+    /// All shifts, those with the fewest nurses first.
+    pub order: Vec<u64>,
     /// By nurse, how much more it may be spared.
     pub slack: Vec<u64>,
     /// By shift, the nurse whose slack ends where the number does.
@@ -37,6 +39,19 @@ pub fn zeros(alloc: Global, count: usize) -> Result<Vec<u64>, AllocError>
     Ok(list)
 }
 
+// All shifts, those with the fewest nurses first; of others the first one first.
+fn shifts_by_nurses(alloc: Global, inst: &Instance) -> Result<Vec<u64>, AllocError> {
+    let mut list = Vec::new(alloc);
+    for count in 0..inst.nurses() as usize + 1 {
+        for k in 0..inst.shifts() {
+            if inst.working(Shift(k)).len() == count {
+                list.push(k as u64)?;
+            }
+        }
+    }
+    Ok(list)
+}
+
 impl Scratch {
     /// All numbers are 0.
     pub fn new(alloc: Global, inst: &Instance) -> Result<Scratch, AllocError> {
@@ -45,6 +60,7 @@ impl Scratch {
         Ok(Scratch {
             numbers: zeros(alloc, shifts)?,
             costs: zeros(alloc, shifts * nurses)?,
+            order: shifts_by_nurses(alloc, inst)?,
             slack: zeros(alloc, nurses)?,
             holders: zeros(alloc, shifts)?,
             served: zeros(alloc, shifts)?,
