@@ -8,10 +8,10 @@ ghost use Rattle.ih_proposals.specs.NewStays.{IsNewStay};
 use crate::new_stays::{NewStay, marks_but};
 use crate::place::find_place_on;
 use crate::situation::Situation;
-use crate::theatres::surgery_score;
+use crate::theatres::surgery_cost;
 use crate::words::RandomWords;
 use ih_moves::{Chain, window_len};
-use ih_plan::Placement;
+use ih_plan::{Move, Placement};
 use ih_tables::{Day, Instance, PatientNo};
 
 // So many days of the patient's window are looked at.
@@ -44,8 +44,9 @@ fn day_of_window(inst: &Instance, patient_no: PatientNo, day_no: u32) -> Option<
 
 // What a placement costs: the delay, its surgery, and the nurses who care over the stay. Skills, workloads and ages
 // aren't looked at.
-fn rough_cost(here: &Situation<'_>, stay: NewStay) -> i64
-    requires { IsNewStay here.now.inst.now.draft stay }
+fn rough_cost(here: &Situation<'_>, stay: NewStay, attempt: &Chain) -> i64
+    requires stay { IsNewStay here.now.inst.now.draft stay }
+    requires moves { AreMoves here.now.inst.now.draft attempt.now }
 {
     let weights = here.inst.weights().w;
     let NewStay { patient, at } = stay;
@@ -54,7 +55,7 @@ fn rough_cost(here: &Situation<'_>, stay: NewStay) -> i64
         .0
         .saturating_sub(here.inst.patient(patient).surgery_release_day);
     let nurses = marks_but(here, stay, None).count_ones();
-    surgery_score(here, patient, here.stay(patient), at)
+    surgery_cost(here, stay, attempt)
         .saturating_add(weights[6].saturating_mul(i64::from(delay)))
         .saturating_add(weights[2].saturating_mul(i64::from(nurses)))
 }
@@ -77,7 +78,7 @@ pub fn cheapest_place(
     for i in 0..DAYS {
         if let Some(day) = day_of_window(here.inst, patient, first.saturating_add(i)) {
             if let Some(at) = find_place_on(here, words, patient, day, attempt) {
-                let cost = rough_cost(here, NewStay { patient, at });
+                let cost = rough_cost(here, NewStay { patient, at }, attempt);
                 if cost < least {
                     least = cost;
                     best = Some(at);
@@ -86,4 +87,24 @@ pub fn cheapest_place(
         }
     }
     best
+}
+
+/// Gives a patient the cheapest of a few places. Who has none stays out; false where that is a mandatory patient.
+pub fn settle(
+    here: &Situation<'_>,
+    words: &mut RandomWords,
+    patient: PatientNo,
+    attempt: &mut Chain,
+) -> bool
+    requires patient { patient.0 < patient_count here.now.inst.now.draft }
+    requires moves { AreMoves here.now.inst.now.draft attempt.old }
+    ensures { AreMoves here.now.inst.now.draft attempt.new }
+{
+    match cheapest_place(here, words, patient, attempt) {
+        Some(at) => {
+            attempt.add(here.inst, Move::Place(patient, at));
+            true
+        }
+        None => !here.inst.patient(patient).mandatory,
+    }
 }

@@ -17,8 +17,14 @@ use ih_tables::{Instance, PatientNo, RoomNo};
 use ih_validate::is_incompatible;
 
 // A placement of the patient by random words, in a room that suits.
-fn draw_goal(here: &Situation<'_>, words: &mut RandomWords, patient: PatientNo) -> Option<Placement>
-    requires { patient.0 < patient_count here.now.inst.now.draft }
+fn draw_goal(
+    here: &Situation<'_>,
+    words: &mut RandomWords,
+    patient: PatientNo,
+    attempt: &Chain,
+) -> Option<Placement>
+    requires patient { patient.0 < patient_count here.now.inst.now.draft }
+    requires moves { AreMoves here.now.inst.now.draft attempt.now }
     ensures { IfSome result (IsPlacement here.now.inst.now.draft) }
 {
     let theatres = here.inst.theatres();
@@ -30,7 +36,7 @@ fn draw_goal(here: &Situation<'_>, words: &mut RandomWords, patient: PatientNo) 
     if is_incompatible(here.inst.patient(patient), room) {
         return None;
     }
-    let theatre = cheapest_theatre(here, patient, day, words.below(theatres));
+    let theatre = cheapest_theatre(here, patient, day, words.below(theatres), attempt);
     Some(Placement { day, room, theatre })
 }
 
@@ -78,7 +84,7 @@ pub fn ejection(here: &Situation<'_>, words: &mut RandomWords, attempt: &mut Cha
     let Some(patient) = draw_patient(here.inst, words) else {
         return;
     };
-    let Some(at) = draw_goal(here, words, patient) else {
+    let Some(at) = draw_goal(here, words, patient, attempt) else {
         return;
     };
     attempt.add(here.inst, Move::Place(patient, at));

@@ -24,6 +24,7 @@ mod regroup;
 mod room_days;
 mod situation;
 mod stays;
+mod surgeries;
 mod swap;
 mod theatres;
 mod words;

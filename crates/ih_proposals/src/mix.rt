@@ -1,5 +1,10 @@
 //! How often each kind of attempt is proposed.
 
+ghost use Rattle.std.specs.Prelude.{◌<◌};
+
+use crate::situation::is_small;
+use ih_tables::Instance;
+
 /// The kinds of attempts.
 #[derive(Clone, Copy, Debug, PartialEq, Eq)]
 pub enum Kind {
@@ -39,7 +44,21 @@ const SHARES: [(Kind, u32); 10] = [
     (Kind::Regroup, 20),
 ];
 
-/// The kind that a word below 256 chooses.
+// So many words more stand for regrouping on small wards.
+const MORE_REGROUPS: u32 = 48;
+
+/// How many words choose a kind, from 0.
+pub fn words_of_kinds(inst: &Instance) -> u32
+    ensures { 0 < result }
+{
+    if is_small(inst) {
+        256 + MORE_REGROUPS
+    } else {
+        256
+    }
+}
+
+/// The kind that a word chooses.
 pub fn kind_of(word: u32) -> Kind {
     let mut left = word;
     for (kind, share) in SHARES {
@@ -48,5 +67,5 @@ pub fn kind_of(word: u32) -> Kind {
         }
         left -= share;
     }
-    Kind::Blind
+    Kind::Regroup
 }

@@ -3,17 +3,29 @@
 ghost use Rattle.std.specs.Prelude.{◌<◌, IfSome};
 ghost use Rattle.ih_tables.specs.Sizes.{patient_count};
 ghost use Rattle.ih_plan.specs.{Timetable.IsPlacement, Expand.IsMoveOf, Series.AreMoves};
+ghost use Rattle.ih_proposals.specs.NewStays.{IsNewStay};
 
-use crate::situation::Situation;
+use crate::new_stays::NewStay;
+use crate::situation::{Situation, is_small};
 use crate::stays::{draw_day, draw_patient, first_fit};
-use crate::theatres::cheapest_theatre;
+use crate::theatres::{cheapest_theatre, surgery_cost};
 use crate::words::RandomWords;
 use ih_moves::Chain;
 use ih_plan::{Move, Placement};
 use ih_tables::{Day, PatientNo};
 
+// Whether the patient may stay out, and that would be cheaper than the surgery. On large wards that isn't asked.
+fn is_better_out(here: &Situation<'_>, stay: NewStay, attempt: &Chain) -> bool
+    requires stay { IsNewStay here.now.inst.now.draft stay }
+    requires moves { AreMoves here.now.inst.now.draft attempt.now }
+{
+    is_small(here.inst)
+        && !here.inst.patient(stay.patient).mandatory
+        && here.inst.weights().w[7] < surgery_cost(here, stay, attempt)
+}
+
 /// A placement of the patient from a day on, by random words: the first room that fits, beside those who are there once
-/// the attempt is made.
+/// the attempt is made. None where the patient would better stay out.
 pub fn find_place_on(
     here: &Situation<'_>,
     words: &mut RandomWords,
@@ -32,8 +44,13 @@ pub fn find_place_on(
     }
     let first = words.below(here.inst.rooms());
     let room = first_fit(here, patient, day, first, attempt)?;
-    let theatre = cheapest_theatre(here, patient, day, words.below(theatres));
-    Some(Placement { day, room, theatre })
+    let theatre = cheapest_theatre(here, patient, day, words.below(theatres), attempt);
+    let at = Placement { day, room, theatre };
+    if is_better_out(here, NewStay { patient, at }, attempt) {
+        None
+    } else {
+        Some(at)
+    }
 }
 
 /// Another placement of the patient, by random words: on the first of so many days of its window that has one.

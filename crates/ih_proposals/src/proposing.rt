@@ -6,7 +6,7 @@ ghost use Rattle.ih_plan.specs.{Series.AreMoves};
 use crate::cheapest_nurse::cheapest_nurse;
 use crate::ejection::ejection;
 use crate::kempe::kempe;
-use crate::mix::{Kind, kind_of};
+use crate::mix::{Kind, kind_of, words_of_kinds};
 use crate::nurse_of_stay::nurse_of_stay;
 use crate::nurse_repair::repair_nurses;
 use crate::nurse_run::nurse_run;
@@ -60,7 +60,7 @@ pub fn propose(
 {
     let here = Situation::new(inst, hard, ledgers);
     attempt.begin(inst);
-    let kind = kind_of(words.below(256));
+    let kind = kind_of(words.below(words_of_kinds(inst)));
     propose_kind(&here, kind, words, attempt);
     // For the proof alone.
     let _few = attempt.len();

@@ -4,10 +4,10 @@ ghost use Rattle.std.specs.Prelude.{◌<◌, IfSome};
 ghost use Rattle.ih_tables.specs.Sizes.{patient_count, room_count};
 ghost use Rattle.ih_plan.specs.{Series.AreMoves};
 
-use crate::best_place::cheapest_place;
+use crate::best_place::settle;
 use crate::ejection::withdrawn;
 use crate::room_days::{RoomDay, person_at};
-use crate::situation::Situation;
+use crate::situation::{Situation, is_small};
 use crate::stays::{cyclic, draw_patient};
 use crate::words::RandomWords;
 use ih_moves::{Chain, window_len};
@@ -22,6 +22,8 @@ const MOST_WITHDRAWN: usize = 3;
 const LOOKS: u32 = 64;
 // Once in so many times one who is out joins.
 const TIMES_A_JOIN: u32 = 4;
+// The same on small wards, where it tells most who comes at all.
+const TIMES_A_JOIN_IF_SMALL: u32 = 2;
 
 // The patient whom a number of a person stands for, where the patient is admitted on that day.
 fn admitted_on(here: &Situation<'_>, person: PersonNo, day: Day) -> Option<PatientNo>
@@ -96,26 +98,6 @@ fn draw_out(here: &Situation<'_>, words: &mut RandomWords, from: Day) -> Option<
     None
 }
 
-// Gives a patient the cheapest of a few places. Who has none stays out; false where that is a mandatory patient.
-fn settle(
-    here: &Situation<'_>,
-    words: &mut RandomWords,
-    patient: PatientNo,
-    attempt: &mut Chain,
-) -> bool
-    requires patient { patient.0 < patient_count here.now.inst.now.draft }
-    requires moves { AreMoves here.now.inst.now.draft attempt.old }
-    ensures { AreMoves here.now.inst.now.draft attempt.new }
-{
-    match cheapest_place(here, words, patient, attempt) {
-        Some(at) => {
-            attempt.add(here.inst, Move::Place(patient, at));
-            true
-        }
-        None => !here.inst.patient(patient).mandatory,
-    }
-}
-
 // Gives a patient who is out and may join, where there is one, the cheapest of a few places.
 fn join(here: &Situation<'_>, words: &mut RandomWords, from: Day, attempt: &mut Chain)
     requires { AreMoves here.now.inst.now.draft attempt.old }
@@ -163,8 +145,8 @@ fn resettle(here: &Situation<'_>, words: &mut RandomWords, count: u32, attempt: 
 }
 
 /// Up to seven moves: two or three patients who are admitted to one room on four days in a row, both by random words, are
-/// withdrawn; each gets the cheapest of a few places, or stays out. Once in four times one who is out comes first. None
-/// where a mandatory patient would stay out.
+/// withdrawn; each gets the cheapest of a few places, or stays out. Once in four times, on small wards in two, one who
+/// is out comes first. None where a mandatory patient would stay out.
 pub fn regroup(here: &Situation<'_>, words: &mut RandomWords, attempt: &mut Chain)
     requires { AreMoves here.now.inst.now.draft attempt.old }
     ensures { AreMoves here.now.inst.now.draft attempt.new }
@@ -178,7 +160,12 @@ pub fn regroup(here: &Situation<'_>, words: &mut RandomWords, attempt: &mut Chai
         attempt.begin(here.inst);
         return;
     }
-    if words.below(TIMES_A_JOIN) == 0 {
+    let times = if is_small(here.inst) {
+        TIMES_A_JOIN_IF_SMALL
+    } else {
+        TIMES_A_JOIN
+    };
+    if words.below(times) == 0 {
         join(here, words, from, attempt);
     }
     if !resettle(here, words, count, attempt) {

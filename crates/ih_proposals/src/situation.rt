@@ -8,6 +8,14 @@ use ih_roomdays::RoomDays;
 use ih_tables::{Bill, Instance, NurseNo, PatientNo, RoomNo, Shift};
 use ih_theatres::Theatres;
 
+// Wards with more persons are large.
+const MOST_PERSONS: u32 = 128;
+
+/// Whether the ward has so few persons that an attempt may look at all who are there on a day.
+pub fn is_small(inst: &Instance) -> bool {
+    inst.persons() <= MOST_PERSONS
+}
+
 /// A timetable of an instance, by its ledgers, and what a broken rule weighs in a score.
 #[derive(Drop)]
 pub struct Situation<'a> {
