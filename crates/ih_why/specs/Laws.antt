@@ -3,16 +3,11 @@ use Rattle.std.specs.Prelude.{◌≡◌, ℕ, ◌<◌, [], true, false, Some, sl
 use Rattle.ih_tables.specs.declared.drafts.Draft.{Draft}
 use Rattle.ih_tables.specs.declared.drafts.Patient.{Patient}
 use Rattle.ih_tables.specs.Sizes.{room_count, shift_count}
-use Rattle.ih_plan.specs.Timetable.{Timetable}
-use Rattle.ih_bound.specs.Bounds.{IsFeasible}
+use Rattle.ih_bound.specs.Bounds.{NoneIsFeasible}
 use Rattle.ih_why.specs.declared.reasons.Reason.{Reason}
 use Rattle.ih_why.specs.Account.{account}
 use Rattle.ih_why.specs.Admissions.{has_admission, holds, reason_of}
 use Rattle.ih_why.specs.Beds.{is_crowded, is_deserted, is_mixed}
-
--- no timetable of the instance is feasible
-abbrev pub NoneIsFeasible : Draft → Type 0
-NoneIsFeasible I = (P : Timetable) → IsFeasible I P → ⊥
 
 -- Where anything is said, no timetable is feasible; and so it is of each sentence alone.
 pub record ReasonsAreTrue (I : Draft) : Type 0 where

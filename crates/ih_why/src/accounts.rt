@@ -24,8 +24,8 @@ type Put = Result<(), AllocError>;
 
 // ---- patients
 
-// The surgeon's id.
-fn surgeon_id(inst: &Instance, surgeon: SurgeonNo) -> &str
+/// The surgeon's id.
+pub fn surgeon_id(inst: &Instance, surgeon: SurgeonNo) -> &str
     ensures { result.now ≡ surgeon_id inst.now.draft surgeon.0 }
 {
     match inst.draft.surgeons.as_slice().get(surgeon.0 as usize) {

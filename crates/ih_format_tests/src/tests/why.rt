@@ -1,44 +1,8 @@
 //! What is said of two small instances after one change.
 
 use crate::tests::rows::none_is_wrong;
-use ih_fixtures::{TWO_PATIENTS, WARD, cut, put_changed};
-use ih_instance::read_instance;
-use ih_tables::Instance;
-use ih_why::account;
-use std::alloc::Global;
-
-// Whether what is said of an instance begins so.
-fn is_said_of(alloc: Global, inst: &Instance, wanted: &str) -> bool {
-    match account(alloc, inst) {
-        Ok(text) => match wanted {
-            "nothing" => text.is_empty(),
-            _ => text.as_slice().starts_with(wanted.as_bytes()),
-        },
-        Err(_) => false,
-    }
-}
-
-// Whether this is said after a change.
-fn is_said(alloc: Global, text: &str, old: &str, new: &str, wanted: &str) -> bool {
-    let mut file = String::new(alloc);
-    let changed = matches!(put_changed(&mut file, text, old, new), Ok(true));
-    match read_instance(alloc, file.as_bytes()) {
-        Ok(inst) => changed && is_said_of(alloc, &inst, wanted),
-        Err(_) => false,
-    }
-}
-
-// The first row that isn't so: what stands in a text, what is put in its place, and what is then said.
-fn first_wrong<'t>(alloc: Global, text: &str, table: &'t str) -> &'t str {
-    for row in table.trim().split('\n') {
-        let (old, rest) = cut(row, " | ");
-        let (new, wanted) = cut(rest, " | ");
-        if !is_said(alloc, text, old, new, wanted) {
-            return row;
-        }
-    }
-    ""
-}
+use crate::tests::said::{Teller, first_wrong};
+use ih_fixtures::{TWO_PATIENTS, WARD};
 
 const PATIENTS: &str = r#"
 "surgery_due_day":1 | "surgery_due_day":0 | nothing
@@ -59,6 +23,9 @@ const ROOMS: &str = r#"
 
 #[test]
 fn each_change_has_its_reason(rt: HostRuntime) {
-    none_is_wrong(&rt, first_wrong(rt.alloc(), TWO_PATIENTS, PATIENTS));
-    none_is_wrong(&rt, first_wrong(rt.alloc(), WARD, ROOMS));
+    none_is_wrong(
+        &rt,
+        first_wrong(rt.alloc(), Teller::Account, TWO_PATIENTS, PATIENTS),
+    );
+    none_is_wrong(&rt, first_wrong(rt.alloc(), Teller::Account, WARD, ROOMS));
 }

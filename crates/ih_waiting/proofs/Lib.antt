@@ -1,0 +1,6 @@
+pub mod LineSteps
+pub mod FirstStays
+pub mod Cheapest
+pub mod ChangedBills
+pub mod Least
+pub mod Passed

@@ -1,0 +1,4 @@
+pub mod Spellings
+pub mod Slips
+pub mod Warnings
+pub mod Laws
