@@ -161,6 +161,37 @@ def bill(ward, findings):
     return {"cost": sum(x * w for x, w in zip(costs, ward.weights)), "costs": costs, "rules": total(findings.rules)}
 
 
+MOST_TRIED, HARD = 3000, 1_000_000
+
+
+def admissions(ward, x):
+    """The stays that a patient may get, in the order in which they are tried."""
+    last = min(x["surgery_due_day"] if x["mandatory"] else ward.days - 1, ward.days - 1)
+    rooms = [r for name, r in ward.rooms.items() if name not in x["incompatible_room_ids"]]
+    return [[d, r, t] for d in range(x["surgery_release_day"], last + 1) for r in rooms for t in range(len(ward.theatres))]
+
+
+def waits(ward, plan):
+    """Who waits, each with the cheapest admission: by trying all, or nothing where these are too many."""
+    out = [i for i, at in enumerate(plan.stays) if at is None]
+    tried = {i: admissions(ward, ward.inst["patients"][i]) for i in out}
+    if sum(map(len, tried.values())) > MOST_TRIED:
+        return None
+    before, found = bill(ward, Findings(ward, plan)), []
+    for i in out:
+        least = None
+        for at in tried[i]:
+            plan.stays[i] = at
+            after = bill(ward, Findings(ward, plan))
+            more = [now - was for now, was in zip(after["rules"], before["rules"])]
+            cost = after["cost"] - before["cost"]
+            if least is None or HARD * sum(more) + cost < least[0]:
+                least = (HARD * sum(more) + cost, {"broken": sum(n for n in more if n > 0), "cost": cost, "place": at})
+        plan.stays[i] = None
+        found.append([i, least and least[1]])
+    return found
+
+
 def changes(ward, plan, older):
     return {"bill": bill(ward, Findings(ward, older)),
             "patients": [[i, was] for i, (was, now) in enumerate(zip(older.stays, plan.stays)) if was != now],
@@ -173,7 +204,8 @@ def data(instance, solution, first=None, since=None, title=None):
     plan = Plan(ward, read(solution))
     findings = Findings(ward, plan)
     return {
-        "bill": bill(ward, findings), "care": plan.care, "stays": plan.stays, "instance": ward.data(),
+        "bill": bill(ward, findings), "instance": ward.data(),
+        "plan": {"care": plan.care, "stays": plan.stays, "waits": waits(ward, plan) or []},
         "changes": changes(ward, plan, Plan(ward, read(since))) if since else None,
         "findings": {"costs": findings.costs, "rules": findings.rules},
         "first": [int(part) for part in first.split("-")] if first else None,

@@ -70,10 +70,13 @@ def read(instance, solution, page, older=None):
         found = data_in(file.read())
     wanted = board.data(instance, solution, since=older)
     wanted["heading"], wanted["first"] = found["heading"], found["first"]
+    waits = found["plan"]["waits"]
+    assert [i for i, _ in waits] == [i for i, at in enumerate(found["plan"]["stays"]) if at is None], "who waits differs"
+    wanted["plan"]["waits"] = wanted["plan"]["waits"] or waits
     for key in wanted:
         assert found[key] == wanted[key], "%s differs" % key
     print("rooms %d, persons %d, findings %d, cost %d" % (
-        len(wanted["care"]), sum(map(len, wanted["instance"]["persons"].values())),
+        len(wanted["plan"]["care"]), sum(map(len, wanted["instance"]["persons"].values())),
         sum(len(found) for lists in wanted["findings"].values() for found in lists), wanted["bill"]["cost"]))
 
 

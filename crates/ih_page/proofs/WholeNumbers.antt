@@ -1,8 +1,9 @@
 -- The numbers of a page's data are whole.
 use Rattle.std.proofs.Common.{◌≡◌, ℕ, refl, false, List, [], ◌∷◌, map}
-use Rattle.std.specs.Prelude.{ℤ, Option, Some, None}
+use Rattle.std.specs.Prelude.{ℤ, pos, negsuc, Option, Some, None}
 use Rattle.std.specs.List.{range_with_len}
-use Rattle.serde_json.specs.Data.{Data, string}
+use Rattle.serde_json.specs.Data.{Data, number, string}
+use Rattle.serde_json.specs.Find.{of_integer}
 use Rattle.serde_json.specs.View.{items_of}
 use Rattle.serde_json.specs.Written.{has_float, items_have_float}
 use Rattle.jiff.specs.Types.{Date}
@@ -15,7 +16,10 @@ use Rattle.ih_tables.specs.declared.drafts.Nurse.{Nurse}
 use Rattle.ih_tables.specs.declared.drafts.Occupant.{Occupant}
 use Rattle.ih_tables.specs.declared.drafts.Patient.{Patient}
 use Rattle.ih_tables.specs.declared.ids.RoomNo.{RoomNo}
+use Rattle.ih_tables.specs.Bills.{cost}
 use Rattle.ih_tables.specs.Sizes.{patient_count, room_count, shift_count}
+use Rattle.ih_plan.specs.declared.moves.Placement.{Placement}
+use Rattle.ih_plan.specs.Sums.{which_below}
 use Rattle.ih_plan.specs.BillOf.{bill_of}
 use Rattle.ih_plan.specs.Cells.{cell_at}
 use Rattle.ih_plan.specs.Timetable.{Timetable, care_of, stay_of}
@@ -25,9 +29,11 @@ use Rattle.ih_page.specs.declared.findings.Line.TheVariants.{Rule, Cost}
 use Rattle.ih_page.specs.Changes.{changed_patients, changed_shifts, changes_data, room_data as room_changes, was_data}
 use Rattle.ih_page.specs.Findings.{amount_at, finding_data, findings_data, findings_of, line_data, spot_of}
 use Rattle.ih_page.specs.InstanceData.{instance_data, nurse_data, occupant_data, patient_data, person_data, persons_data, places_data, room_data, staff_data, surgeon_data, theatre_data, window_data, worked_data}
-use Rattle.ih_page.specs.Page.{HeadingTexts, date_data, heading_data, page_data}
+use Rattle.ih_page.specs.Page.{HeadingTexts, date_data, heading_data, page_data, plan_data}
 use Rattle.ih_page.specs.TimetableData.{bill_data, place_data, room_data as room_care}
 use Rattle.ih_page.specs.Values.{amount_data, option_data}
+use Rattle.ih_page.specs.Waits.{admission_data, is_out, wait_data}
+use Rattle.ih_waiting.specs.Admissions.{change_by, cheapest_admission}
 
 -- what holds of each value of a list
 each : {A : Type 0} (f : A → Data) (xs : List A) → ((x : A) → has_float (f x) ≡ false) → items_have_float (items_of (map f xs)) ≡ false
@@ -131,6 +137,31 @@ changes-float I P O = rw (
   each (room_changes I O P) (range_with_len 0 (room_count I)) (shifts-float I O P),
 ) refl
 
+-- ---- who waits
+
+signed-float : (z : ℤ) → has_float (number (of_integer z)) ≡ false
+signed-float (pos n) = refl
+signed-float (negsuc n) = refl
+
+admission-float : (I : Draft) (place : Placement) (change : Bill) → has_float (admission_data I place change) ≡ false
+unfolding admission_data
+admission-float I place change = rw (signed-float (cost I.weights change)) refl
+
+wait-float : (I : Draft) (P : Timetable) (p : ℕ) → has_float (wait_data I P p) ≡ false
+unfolding wait_data
+wait-float I P p = rw
+    (option-float (λ place. admission_data I place (change_by I P p place)) (cheapest_admission I P p)
+    (λ place. admission-float I place (change_by I P p place)))
+    refl
+
+plan-float : (I : Draft) (P : Timetable) → has_float (plan_data I P) ≡ false
+unfolding plan_data
+plan-float I P = rw (
+  each (room_care I P) (range_with_len 0 (room_count I)) (nurses-float I P),
+  each (λ p. option_data place_data (stay_of P p)) (range_with_len 0 (patient_count I)) (place-float P),
+  each (wait_data I P) (which_below (patient_count I) (is_out P)) (wait-float I P),
+) refl
+
 -- ---- the whole
 
 heading-float : (h : HeadingTexts) → has_float (heading_data h) ≡ false
@@ -141,13 +172,12 @@ pub page-float : (h : HeadingTexts) (I : Draft) (first : Option Date) (older : O
 unfolding page_data
 page-float h I first older P = rw (
   bill-float I.weights (bill_of I P),
-  each (room_care I P) (range_with_len 0 (room_count I)) (nurses-float I P),
   option-float (changes_data I P) older (changes-float I P),
   findings-float I P,
   option-float date_data first (λ d. refl),
   heading-float h,
   instance-float I,
-  each (λ p. option_data place_data (stay_of P p)) (range_with_len 0 (patient_count I)) (place-float P),
+  plan-float I P,
 ) refl
 
 pub ruleset whole_numbers = page-float

@@ -3,6 +3,7 @@ pub mod InstanceData
 pub mod TimetableData
 pub mod Findings
 pub mod Changes
+pub mod Waits
 pub mod Escapes
 pub mod Page
 pub mod Laws

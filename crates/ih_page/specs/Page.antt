@@ -15,6 +15,7 @@ use Rattle.ih_page.specs.Findings.{findings_data}
 use Rattle.ih_page.specs.InstanceData.{instance_data}
 use Rattle.ih_page.specs.TimetableData.{bill_data, care_data, stays_data}
 use Rattle.ih_page.specs.Values.{numbers_data, option_data}
+use Rattle.ih_page.specs.Waits.{waits_data}
 
 -- what stands over a page: its title, and the names of the files that it was made from
 pub record HeadingTexts : Type 0 where
@@ -43,18 +44,24 @@ heading_data h = object
 abbrev pub date_data : Date → Data
 date_data d = numbers_data (unsigned_abs d.year ∷ d.month ∷ d.day ∷ [])
 
+-- the timetable: every room's nurses, every patient's stay, and who waits
+unfoldable pub plan_data : Draft → Timetable → Data
+plan_data I P = object
+    (member (codes "care") (list_data (care_data I P))
+    (member (codes "stays") (list_data (stays_data I P))
+    (member (codes "waits") (list_data (waits_data I P)) no_members)))
+
 -- All that a page shows: what stands over it, the date of the first day, the instance, the timetable with its bill and
 -- what that is made of, and what changed since an older timetable; null where there is no date or no older timetable.
 unfoldable pub page_data : HeadingTexts → Draft → Option Date → Option Timetable → Timetable → Data
 page_data h I first older P = object
     (member (codes "bill") (bill_data I.weights (bill_of I P))
-    (member (codes "care") (list_data (care_data I P))
     (member (codes "changes") (option_data (changes_data I P) older)
     (member (codes "findings") (findings_data I P)
     (member (codes "first") (option_data date_data first)
     (member (codes "heading") (heading_data h)
     (member (codes "instance") (instance_data I)
-    (member (codes "stays") (list_data (stays_data I P)) no_members))))))))
+    (member (codes "plan") (plan_data I P) no_members)))))))
 
 -- a text of JSON in its place in the template
 abbrev pub in_template : List ℕ → List ℕ

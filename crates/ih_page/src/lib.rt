@@ -10,6 +10,7 @@ mod pages;
 mod template;
 mod timetables;
 mod values;
+mod waits;
 
 pub use laws::{changes_are_listed, data_is_inert, findings_sum};
 pub use pages::{Heading, page};

@@ -5,7 +5,7 @@ ghost use Rattle.serde_json.specs.{Data.string, View.view, Written.compact_text}
 ghost use Rattle.ih_plan.specs.Timetable.{IsPlanOf};
 ghost use Rattle.ih_page.specs.Changes.{changes_data};
 ghost use Rattle.ih_page.specs.Findings.{findings_data};
-ghost use Rattle.ih_page.specs.Page.{date_data, heading_data, heading_texts, in_template, page_data, page_of};
+ghost use Rattle.ih_page.specs.Page.{date_data, heading_data, heading_texts, in_template, page_data, page_of, plan_data};
 ghost use Rattle.ih_page.specs.Values.{option_data};
 
 use crate::changes::{Compared, changes_value};
@@ -14,6 +14,7 @@ use crate::findings::findings_value;
 use crate::instances::instance_value;
 use crate::template::{HEAD, TAIL};
 use crate::timetables::{bill_value, care_values, stay_values};
+use crate::waits::wait_values;
 use ih_costs::Ledgers;
 use ih_footprint::Numbering;
 use ih_plan::Plan;
@@ -95,6 +96,18 @@ fn found_value(alloc: Global, inst: &Instance, plan: &Plan) -> Result<Value, All
     findings_value(alloc, Numbering::of(inst), &ledgers)
 }
 
+// The timetable, and who waits.
+#[tactic(auto, unfolding(crate::specs::Page::plan_data))]
+fn plan_value(alloc: Global, inst: &Instance, plan: &Plan) -> Result<Value, AllocError>
+    requires { IsPlanOf inst.now.draft plan.now }
+    ensures { IfOk result (λ v. view v ≡ plan_data inst.now.draft plan.now) }
+{
+    let care = care_values(alloc, inst, plan)?;
+    let stays = stay_values(alloc, inst, plan)?;
+    let waits = wait_values(alloc, inst, plan)?;
+    json!(in alloc; {"care": care, "stays": stays, "waits": waits})
+}
+
 // All that the page shows.
 #[tactic(auto, unfolding(crate::specs::Page::page_data))]
 fn page_value(
@@ -111,22 +124,20 @@ fn page_value(
         ≡ page_data (heading_texts heading.now) inst.now.draft first (option_map (λ o. o.now) older.entry) plan.now) }
 {
     let bill = bill_value(alloc, inst, plan)?;
-    let care = care_values(alloc, inst, plan)?;
     let changes = changes_since(alloc, inst, plan, older)?;
     let findings = found_value(alloc, inst, plan)?;
     let first = date_value(alloc, first)?;
     let heading = heading_value(alloc, heading)?;
     let instance = instance_value(alloc, &inst.draft)?;
-    let stays = stay_values(alloc, inst, plan)?;
+    let timetable = plan_value(alloc, inst, plan)?;
     json!(in alloc; {
         "bill": bill,
-        "care": care,
         "changes": changes,
         "findings": findings,
         "first": first,
         "heading": heading,
         "instance": instance,
-        "stays": stays,
+        "plan": timetable,
     })
 }
 

@@ -166,15 +166,16 @@ const shiftsOf = (nurse) => { const most = Array(3 * ward.days).fill(null); for 
 const data = {
   title: given.heading.title, files: given.heading, first: given.first, days: ward.days, shifts: ward.shifts, ages: ward.ages,
   rules: given.bill.rules, costs: given.bill.costs, cost: given.bill.cost, weights: ward.weights,
-  rooms: ward.places.rooms, theatres: ward.places.theatres, surgeons: ward.staff.surgeons, care: given.care, since: given.changes,
+  rooms: ward.places.rooms, theatres: ward.places.theatres, surgeons: ward.staff.surgeons, care: given.plan.care, since: given.changes,
   nurses: ward.staff.nurses.map((nurse) => ({ id: nurse.id, skill: nurse.skill, most: shiftsOf(nurse) })),
 };
 const since = given.changes && { bill: given.changes.bill, stays: new Map(given.changes.patients), nurses: given.changes.shifts.map((shifts) => new Map(shifts)) };
 const people = [
-  ...patients.map((patient, index) => ({ ...patient, ...patient.person, ...patient.window, index, occupant: false, at: placed(given.stays[index]), ...(since && since.stays.has(index) ? { was: placed(since.stays.get(index)) } : {}) })),
+  ...patients.map((patient, index) => ({ ...patient, ...patient.person, ...patient.window, index, occupant: false, at: placed(given.plan.stays[index]), ...(since && since.stays.has(index) ? { was: placed(since.stays.get(index)) } : {}) })),
   ...occupants.map((occupant, index) => ({ ...occupant.person, index: patients.length + index, occupant: true, mandatory: false, release: 0, due: null, surgeon: null, minutes: 0, unsuited: [], at: { day: 0, room: occupant.room, theatre: null } })),
 ];
 const foundIn = (lists, make) => lists.flatMap((list, line) => list.map(([amount, kind, row, column]) => ({ cell: KINDS[kind], of: [row, column], amount, ...make(line, amount) })));
+const waits = new Map(given.plan.waits);
 const findings = [...foundIn(given.findings.rules, (rule) => ({ rule })), ...foundIn(given.findings.costs, (cost, amount) => ({ cost, points: amount * ward.weights[cost] }))];
 const broken = findings.filter((found) => found.rule !== undefined);
 
@@ -450,10 +451,18 @@ function billChanges() {
     make("tbody", {}, rows.map(([name, was, is]) => make("tr", {}, make("th", { scope: "row" }, name), [was, is, is - was].map((amount) => make("td", { class: "n" }, number(amount)))))))];
 }
 
+// The cheapest admission of a patient who waits.
+function couldText(person) {
+  const could = waits.get(person.index);
+  if (!could) return "no day: no room suits, the window is empty, or there is no theatre";
+  const cost = `cost ${could.cost < 0 ? "\u2212" : "+"}${number(Math.abs(could.cost))}`;
+  return `${placeText(placed(could.place))}: ${could.broken === 0 ? cost : `breaks rules by ${number(could.broken)} more, ${cost}`}`;
+}
+
 function drawWaiting() {
-  return [make("h2", {}, `${many(waiting.length, "patient")} not admitted`), make("table", { class: "list" }, make("thead", {}, make("tr", {}, ["Patient", "must", "from", "until", "stay", "surgeon", "minutes"].map((text) => make("th", { scope: "col" }, text)))),
+  return [make("h2", {}, `${many(waiting.length, "patient")} not admitted`), make("table", { class: "list" }, make("thead", {}, make("tr", {}, ["Patient", "must", "from", "until", "stay", "surgeon", "minutes", "could come"].map((text) => make("th", { scope: "col" }, text)))),
     make("tbody", {}, waiting.filter((person) => matches(person.id, data.surgeons[person.surgeon].id)).map((person) => make("tr", {}, make("th", { scope: "row" }, make("button", { class: "link", on: { click: () => showPerson(person) } }, person.id)), make("td", { class: person.mandatory ? "warn" : null }, person.mandatory ? "★ must be admitted" : ""),
-      make("td", {}, dayName(person.release)), make("td", {}, person.due === null ? "" : dayName(person.due)), make("td", {}, many(person.stay, "day")), make("td", {}, data.surgeons[person.surgeon].id), make("td", { class: "n" }, String(person.minutes))))))];
+      make("td", {}, dayName(person.release)), make("td", {}, person.due === null ? "" : dayName(person.due)), make("td", {}, many(person.stay, "day")), make("td", {}, data.surgeons[person.surgeon].id), make("td", { class: "n" }, String(person.minutes)), make("td", {}, couldText(person))))))];
 }
 
 function findingRow(found) {
@@ -482,7 +491,7 @@ function showPerson(person) {
     const nurses = new Map();
     for (let shift = 3 * from(person); shift < 3 * until(person); shift += 1) { const nurse = nurseAt(person.at.room, shift); if (nurse !== null) nurses.set(nurse, (nurses.get(nurse) || 0) + 1); }
     facts.push([many(nurses.size, "nurse"), [...nurses].sort((one, other) => other[1] - one[1]).map(([nurse, shifts]) => `${data.nurses[nurse].id} (${shifts})`).join(", ")]);
-  } else facts.push(["admitted", "no"]);
+  } else facts.push(["admitted", "no"], ["could come", couldText(person)]);
   if (hasChanged(person)) facts.push(["was", placeText(person.was)]);
   const about = findings.filter((found) => ["stay", "care"].includes(found.cell) && found.of[0] === person.index);
   about.forEach((found) => facts.push([found.rule !== undefined ? RULES[found.rule] : COSTS[found.cost], found.points === undefined ? number(found.amount) : `${number(found.amount)}, ${many(found.points, "point")}`]));
