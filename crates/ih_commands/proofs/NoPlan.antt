@@ -1,24 +1,24 @@
 -- What a call of why says that ends with the status of an infeasible instance.
-use Rattle.std.proofs.Common.{◌≡◌, ◌∙◌, ap, refl, inl, inr, ℕ, Bool, true, false, List, [], length, Option, None}
+use Rattle.std.proofs.Common.{◌≡◌, ◌∙◌, ap, refl, inl, inr, ℕ, Bool, true, false, List, [], ◌++◌, append_assoc, length, Option, None}
 use Rattle.std.specs.Prelude.{◌≢◌, if◌then◌else◌}
 use Rattle.std.proofs.lemmas.Bool.{eqb-false}
 use Rattle.ih_shelf.specs.Outside.{Names}
+use Rattle.ih_warnings.specs.Warnings.{warnings}
 use Rattle.ih_endings.specs.declared.status.Status.{Status}
 use Rattle.ih_endings.specs.declared.status.Status.TheVariants.{Done, Infeasible, WriteFault}
 use Rattle.ih_endings.specs.Answers.{unsaid}
 use Rattle.ih_endings.proofs.Stopping.{unread-only}
 use Rattle.ih_frame.specs.Ends.{IsPerformed}
 use Rattle.ih_frame.specs.Outcomes.{IsLeft, OutcomeState}
-use Rattle.ih_why.specs.Account.{account}
 use Rattle.ih_commands.specs.Calls.Bound.{judged_status}
-use Rattle.ih_commands.specs.Calls.Why.{IsExplained, WhyCall, nothing_text, says_nothing, why_inputs}
+use Rattle.ih_commands.specs.Calls.Why.{IsExplained, WhyCall, nothing_text, says_nothing, waiting_in, why_inputs, why_text}
 use Rattle.ih_commands.specs.Laws.{ExplainedCallsHaveNoPlan, HasNoPlan}
 
--- an account with such a status says something, and that is said
-some-said : (reasons : List ℕ) (none : Bool) → says_nothing reasons ≡ none → Infeasible ≡ judged_status none
-    → (reasons ≢ []) × ((if none then nothing_text else reasons) ≡ reasons)
-some-said reasons true e is = absurd (let clash : Infeasible ≡ Done = is in cc)
-some-said reasons false e is = (λ empty. eqb-false (length reasons) 0 e (ap (λ (xs : List ℕ). length xs) empty), refl)
+-- with such a status there are causes, and they are said
+some-said : (causes : List ℕ) (none : Bool) → says_nothing causes ≡ none → Infeasible ≡ judged_status none
+    → (causes ≢ []) × ((if none then nothing_text else causes) ≡ causes)
+some-said causes true e is = absurd (let clash : Infeasible ≡ Done = is in cc)
+some-said causes false e is = (λ empty. eqb-false (length causes) 0 e (ap (λ (xs : List ℕ). length xs) empty), refl)
 
 -- a status that isn't that of an unsaid text
 not-unsaid : (works : Bool) (status : Status) → status ≡ judged_status works → Infeasible ≡ unsaid status → ⊥
@@ -26,23 +26,34 @@ not-unsaid true status is same = let clash : Infeasible ≡ WriteFault None = sa
 not-unsaid false status is same = let clash : Infeasible ≡ WriteFault None = same ∙ ap unsaid is in cc
 
 module _ (w : WhyCall) (old new : Option Names) (text : List ℕ) where
-  performed : IsPerformed IsExplained (why_inputs w) old new Infeasible text → HasNoPlan w old text
+  performed : IsPerformed (IsExplained w) (why_inputs w) old new Infeasible text → HasNoPlan w old text
   performed p = by_left p.left
     where
-      status : p.outcome.status ≡ judged_status (says_nothing (account p.given.instance))
+      status : p.outcome.status ≡ judged_status (says_nothing p.comes.causes)
       status = ap (λ (o : OutcomeState). o.status) p.comes.said
 
       by_left : IsLeft p.outcome old new Infeasible text → HasNoPlan w old text
       by_left (inl (written, inl same, said)) =
-          let found = some-said (account p.given.instance) (says_nothing (account p.given.instance)) refl (same ∙ status) in
+          let causes = p.comes.causes in
+          let found = some-said causes (says_nothing causes) refl (same ∙ status) in
+          let waits : List ℕ = waiting_in w.solution p.given.instance p.given.plan in
+          let slips : List ℕ = warnings p.given.instance in
+          let more : List ℕ = waits ++ slips in
           record {
             given = p.given;
             read = p.read;
-            said = said ∙ (ap (λ (o : OutcomeState). o.text) p.comes.said ∙ found.1);
-            none = p.comes.holds found.0;
+            causes = causes;
+            are_causes = p.comes.are_causes;
+            some = found.0;
+            said = (
+              more,
+              said ∙ (ap (λ (o : OutcomeState). o.text) p.comes.said
+                  ∙ (append_assoc (why_text causes) waits slips ∙ ap (λ (xs : List ℕ). xs ++ more) found.1)),
+            );
+            none = p.comes.are_causes.hold found.0;
           }
       by_left (inl (written, inr (some, same), said)) =
-          absurd (not-unsaid (says_nothing (account p.given.instance)) p.outcome.status status same)
+          absurd (not-unsaid (says_nothing p.comes.causes) p.outcome.status status same)
       by_left (inr stopped) = absurd stopped
 
 pub none-feasible : ExplainedCallsHaveNoPlan

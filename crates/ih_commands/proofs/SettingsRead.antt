@@ -9,6 +9,7 @@ use Rattle.ih_arguments.proofs.Getters.{number_if_given-within}
 use Rattle.ih_improve.specs.declared.settings.TheConstants.{MAX_KEEP}
 use Rattle.ih_commands.specs.Calls.Improve.{HasImprove, ImproveCall, IsLawfulCall, are_options_apart, are_settings_lawful, are_names_apart, default_rounds, improve_in, keep_in, lawful_improve, length_in}
 use Rattle.ih_commands.specs.Pacing.{attempts_of}
+use Rattle.ih_commands.specs.declared.command.common.TheConstants.{DEFAULT_WORKERS}
 use Rattle.ih_commands.specs.declared.pacing.Length.{Length}
 use Rattle.ih_commands.specs.declared.pacing.Length.TheVariants.{Attempts, Seconds}
 use Rattle.ih_commands.specs.declared.pacing.TheConstants.{MAX_CALL_ATTEMPTS, MAX_CALL_ROUNDS}
@@ -18,12 +19,19 @@ pub default-within : (low high d : ℕ) (o : Option ℕ) → low ≤ d → d ≤
 default-within low high d None least most h = (least, most)
 default-within low high d (Some n) least most h = h
 
+-- the workers of a call that looks at patients
+pub workers-within : (rows : List Row) → IsNumberIfGiven 1 MAX_WORKERS (codes "workers") rows
+    → unwrap_or (number_if_given (codes "workers") rows) DEFAULT_WORKERS ≤ MAX_WORKERS
+workers-within rows has =
+    (default-within 1 MAX_WORKERS DEFAULT_WORKERS (number_if_given (codes "workers") rows) (omega arith) (omega arith)
+    (number_if_given-within 1 MAX_WORKERS (codes "workers") rows has)).1
+
 -- there are as many rounds as may be where no number is given
 rounds-within : (l : Length) → (1 ≤ default_rounds l) × (default_rounds l ≤ MAX_CALL_ROUNDS)
 rounds-within (Attempts n) = (omega arith, omega arith)
 rounds-within (Seconds s) = (omega arith, omega arith)
 
--- the attempts are so few, and the heat doesn't rise
+-- the attempts are so few, and the temperature doesn't rise
 abbrev pub AreFew : ImproveCall → Type 0
 AreFew c = (attempts_of c.pace.length ≤ MAX_CALL_ATTEMPTS) × (unwrap_or c.settings.cold 0 ≤ unwrap_or c.settings.hot MAX_HEAT)
 

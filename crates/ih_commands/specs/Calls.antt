@@ -16,7 +16,7 @@ use Rattle.ih_commands.specs.Calls.Improve.{ImproveCall, IsLawfulCall, improve_a
 use Rattle.ih_commands.specs.Pinning.{unknown_patient}
 use Rattle.ih_commands.specs.Calls.Table.{IsTabled, TableCall, lawful_table, table_app, table_call, table_inputs}
 use Rattle.ih_commands.specs.Calls.View.{IsViewed, ViewCall, lawful_view, view_app, view_call, view_inputs}
-use Rattle.ih_commands.specs.Calls.Why.{IsExplained, WhyCall, lawful_why, why_app, why_call, why_inputs}
+use Rattle.ih_commands.specs.Calls.Why.{HasFewToAsk, IsExplained, WhyCall, lawful_why, why_app, why_call, why_inputs}
 use Rattle.ih_commands.specs.declared.command.Command.{Command}
 use Rattle.ih_commands.specs.declared.command.Command.TheVariants.{Bound as BoundCommand, Carry as CarryCommand, Check as CheckCommand, Improve as ImproveCommand, Table as TableCommand, View as ViewCommand, Why as WhyCommand}
 pub mod Bound
@@ -56,7 +56,7 @@ HasLawfulSettings (ViewCommand v) = Unit {0}
 HasLawfulSettings (CheckCommand c) = Unit {0}
 HasLawfulSettings (CarryCommand c) = Unit {0}
 HasLawfulSettings (TableCommand t) = Unit {0}
-HasLawfulSettings (WhyCommand w) = Unit {0}
+HasLawfulSettings (WhyCommand w) = HasFewToAsk w
 
 -- ---- the words that name them
 
@@ -126,7 +126,7 @@ comes_to (bound b) = IsBounded b
 comes_to (check c) = IsChecked
 comes_to (carry c) = IsCarriedOver c
 comes_to (table t) = IsTabled t
-comes_to (why w) = IsExplained
+comes_to (why w) = IsExplained w
 
 -- the answers of a call that has all that it needs
 abbrev pub IsAnswered : Call → Status → Type 0

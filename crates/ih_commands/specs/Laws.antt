@@ -1,5 +1,5 @@
 -- Laws of calls of the program.
-use Rattle.std.specs.Prelude.{◌≡◌, ℕ, true, false, List, [], ◌∷◌, ◌++◌, length, Option, Some, None, IfSome, ◌⊎◌}
+use Rattle.std.specs.Prelude.{◌≡◌, ◌≢◌, ℕ, true, false, List, [], ◌∷◌, ◌++◌, length, Option, Some, None, IfSome, ◌⊎◌}
 use Rattle.clap.specs.Words.{Text}
 use Rattle.ih_tables.specs.declared.drafts.Draft.{Draft}
 use Rattle.ih_tables.specs.Bills.{feasible}
@@ -9,8 +9,7 @@ use Rattle.ih_shelf.specs.Outside.{IfTold, IsWritten, Names}
 use Rattle.ih_bound.specs.declared.outcomes.Outcome.{Outcome}
 use Rattle.ih_solution.specs.Solution.{solution}
 use Rattle.ih_validate.specs.Report.{report}
-use Rattle.ih_why.specs.Account.{account}
-use Rattle.ih_why.specs.Laws.{NoneIsFeasible}
+use Rattle.ih_bound.specs.Bounds.{NoneIsFeasible}
 use Rattle.ih_inputs.specs.Reading.{Given, HasGiven, HasInputs, HasSolution}
 use Rattle.ih_improve.specs.Following.{IsNoDearer, MayFollow}
 use Rattle.ih_improve.specs.Given.{AreSettingsOf}
@@ -27,7 +26,7 @@ use Rattle.ih_frame.specs.Outcomes.{OutcomeState}
 use Rattle.ih_frame.specs.Steps.{AreAllWritten, AreSteps}
 use Rattle.ih_commands.specs.Calls.{why}
 use Rattle.ih_commands.specs.Calls.Improve.{ImproveCall, improve_inputs}
-use Rattle.ih_commands.specs.Calls.Why.{WhyCall, why_inputs}
+use Rattle.ih_commands.specs.Calls.Why.{AreCauses, WhyCall, why_inputs}
 use Rattle.ih_commands.specs.Ends.{CallEnds}
 use Rattle.ih_commands.specs.Pacing.{attempts_of}
 use Rattle.ih_commands.specs.Rounds.{HoldsBest, IsRound, SearchTask, changes_text, first_text, round_text}
@@ -106,7 +105,7 @@ RoundsLeaveTheirBest =
     → AreSteps (IsRound Leaves t) v rs w → AreAllWritten rs old new
     → HoldsBest t w old new
 
--- what is told of as many rounds is the same but for the heats and what the clock said
+-- what is told of as many rounds is the same but for the temperatures and what the clock said
 abbrev pub DifferInNumbers : SearchTask → List OutcomeState → List OutcomeState → Type 0
 DifferInNumbers t [] [] = Unit {0}
 DifferInNumbers t (o ∷ os) (p ∷ ps) =
@@ -131,7 +130,7 @@ pub record IsTheSame (t : SearchTask) (rs ss : List OutcomeState) (w x : Improve
   pub files : (old new other : Names) → AreAllWritten rs old new → AreAllWritten ss old other → Unchanged new other
 
 -- Rounds of one search with the same spans, each led by determined workers, lead to the same and leave the same in each
--- file; and what is told of them differs at most in the heats and in what the clock said.
+-- file; and what is told of them differs at most in the temperatures and in what the clock said.
 abbrev pub RoundsLeaveTheSame : (may_leave : LegState → ℕ → Timetable → Type 0) → Type 0
 RoundsLeaveTheSame may_leave =
     IsDetermined may_leave → (t : SearchTask) (v w x : ImproverState) (spans : List Span) (rs ss : List OutcomeState)
@@ -153,11 +152,14 @@ SearchesAreDetermined =
     (c : ImproveCall) (files : Names) (held kept : Option Timetable) (bound limit : Option Outcome) (v w : ImproverState)
     (one : IsSearch (Some files) c held bound v) (other : IsSearch (Some files) c kept limit w) → one.from.processors ≡ other.from.processors → v ≡ w
 
--- the account of the instance that the call reads is said, and no timetable of that is feasible
+-- what is said begins with causes that hold of the instance that the call reads, and no timetable of that is feasible
 pub record HasNoPlan (w : WhyCall) (old : Option Names) (text : List ℕ) : Type 0 where
   pub given : Given
   pub read : HasGiven old (why_inputs w) given
-  pub said : text ≡ account given.instance
+  pub causes : List ℕ
+  pub are_causes : AreCauses given.instance causes
+  pub some : causes ≢ []
+  pub said : (more : List ℕ) × (text ≡ causes ++ more)
   pub none : NoneIsFeasible given.instance
 
 -- a call of why that ends with the status of an infeasible instance says why it is one

@@ -43,7 +43,7 @@ abbrev pub attempts_through : ℕ → ℕ → ℕ → ℕ
 attempts_through attempts rounds over = attempts * over / rounds
 
 -- the next of so many rounds of so many attempts: each worker makes those up to the share of one round more, and the
--- heat falls by them
+-- temperature falls by them
 abbrev pub share_of : ℕ → ℕ → ImproverState → Span
 share_of attempts rounds v = record {
   attempts = attempts_through attempts rounds (v.rounds + 1) - v.attempts;

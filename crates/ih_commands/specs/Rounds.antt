@@ -100,7 +100,7 @@ abbrev pub round_line : Pace → ImproverState → RoundNumbers → List ℕ
 round_line p v told =
     codes "round " ++ (number_text p.length p.rounds v.rounds ++ (codes ": "
     ++ (decimal (v.settings.workers * v.attempts) ++ (codes " attempts, "
-    ++ (best_text v ++ (codes ", heat " ++ (decimal told.heat ++ time_text p.length told)))))))
+    ++ (best_text v ++ (codes ", temperature " ++ (decimal told.temperature ++ time_text p.length told)))))))
 
 -- what is told of the round that is over
 abbrev pub round_text : Option Outcome → Pace → ImproverState → RoundNumbers → List ℕ

@@ -113,7 +113,7 @@ fn read_named<'a>(alloc: Global, name: &str, words: &'a [String]) -> Result<Comm
 /// - `Help` where the words ask for help, and `Refused` where no command has them: the first word is no command's name,
 ///   `clap` finds a fault, two file names are equal, a freeze day comes without the file of a start or with `--fill`,
 ///   seconds come with attempts, or `--empty` with `--start` or `--fill`, `--keep`, `--pin` or `--pin-nurses` as a freeze
-///   day does, the heat would rise, the workers together would make more than `MAX_CALL_ATTEMPTS` attempts, `--from` names
+///   day does, the temperature would rise, the workers together would make more than `MAX_CALL_ATTEMPTS` attempts, `--from` names
 ///   no day, `--of` no subject, or a calendar comes without `--from`.
 /// - `OutOfMemory` where memory ran out.
 pub fn read_words<'a>(alloc: Global, words: &'a [String]) -> Result<Command<'a>, NoCall>

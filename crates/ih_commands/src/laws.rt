@@ -33,7 +33,8 @@ pub fn searches_are_determined()
     ensures { SearchesAreDetermined }
 {}
 
-/// A call of `why` that ends with status 9 says the account of its instance, of which no timetable is feasible.
+/// A call of `why` that ends with status 9 begins with causes that hold of its instance, of which no timetable is
+/// feasible.
 pub fn explained_calls_have_no_plan()
     ensures { ExplainedCallsHaveNoPlan }
 {}

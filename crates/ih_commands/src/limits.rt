@@ -2,10 +2,10 @@
 
 ghost use Rattle.std.specs.Prelude.{◌≡◌};
 ghost use Rattle.ih_improve.specs.declared.settings.TheConstants.{MAX_KEEP, MAX_ROUNDS};
-ghost use Rattle.ih_commands.specs.declared.command.bound.TheConstants.{DEFAULT_BOUND_ROUNDS, DEFAULT_BOUND_WORKERS};
-ghost use Rattle.ih_commands.specs.declared.command.bound.TheConstants.{MAX_BOUND_ROUNDS};
+ghost use Rattle.ih_commands.specs.declared.command.bound.TheConstants.{DEFAULT_BOUND_ROUNDS, MAX_BOUND_ROUNDS};
 ghost use Rattle.ih_commands.specs.declared.command.improve_words.TheConstants.{DEFAULT_ROUNDS, DEFAULT_SECONDS, DEFAULT_SEED};
 ghost use Rattle.ih_commands.specs.declared.command.improve_words.TheConstants.{DEFAULT_TIMED_ROUNDS};
+ghost use Rattle.ih_commands.specs.declared.command.common.TheConstants.{DEFAULT_WORKERS};
 ghost use Rattle.ih_commands.specs.declared.pacing.TheConstants.{MAX_CALL_ATTEMPTS, MAX_CALL_ROUNDS, MAX_SECONDS};
 
 /// The limits of the words are these numbers, and these stand for what is left out: where a definition speaks of them by
@@ -22,5 +22,5 @@ pub fn limits_are_these()
     ensures default_seed { DEFAULT_SEED ≡ 1 }
     ensures bound_rounds { MAX_BOUND_ROUNDS ≡ 1000000 }
     ensures default_bound_rounds { DEFAULT_BOUND_ROUNDS ≡ 1500 }
-    ensures default_bound_workers { DEFAULT_BOUND_WORKERS ≡ 4 }
+    ensures default_workers { DEFAULT_WORKERS ≡ 4 }
 {}

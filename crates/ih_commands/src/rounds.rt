@@ -54,8 +54,8 @@ pub(crate) struct Search<'i, 'o, W> {
 /// What is told of a round beside what it found.
 #[derive(Clone, Copy)]
 pub(crate) struct RoundNumbers {
-    /// The heat as it ended.
-    heat: u32,
+    /// The temperature as it ended.
+    temperature: u32,
     /// By the clock, how many seconds are left.
     left: u64,
     /// By the clock, how many attempts all workers made a second.
@@ -152,8 +152,10 @@ fn round_line(
     let mut first = Buffer::new();
     let mut second = Buffer::new();
     let attempts = first.format(improver.attempts_made());
-    let heat = second.format(told.heat);
-    format!(in alloc; "round {number}: {attempts} attempts, {best}, heat {heat}{time}")
+    let temperature = second.format(told.temperature);
+    format!(in alloc;
+        "round {number}: {attempts} attempts, {best}, temperature {temperature}{time}"
+    )
 }
 
 // What is told of the round that is over: its line, and before the first one what no plan costs less than.
@@ -185,7 +187,7 @@ fn numbers_of(pace: &Pace, times: &Times, improver: &Improver<'_>) -> RoundNumbe
         ),
     };
     RoundNumbers {
-        heat: improver.heat(),
+        temperature: improver.heat(),
         left,
         rate,
     }

@@ -73,7 +73,7 @@ impl Times {
 }
 
 /// What the next round by the clock is to do. Rounds have even shares of the time, by the rate of the one before. In the
-/// last fiftieth of the time the heat is 0.
+/// last fiftieth of the time the temperature is 0.
 pub(crate) fn timed_span(seconds: u32, rounds: u32, times: &Times, most: u64) -> Span
     ensures { result.attempts ≤ most }
 {

@@ -16,7 +16,8 @@ use Rattle.ih_bound.specs.Texts.{bound_text}
 use Rattle.ih_bound.specs.declared.judging.Judged.{Judged}
 use Rattle.ih_bound.specs.declared.outcomes.Outcome.{Outcome}
 use Rattle.ih_commands.specs.declared.command.bound.Bound.{Bound}
-use Rattle.ih_commands.specs.declared.command.bound.TheConstants.{DEFAULT_BOUND_WORKERS, DEFAULT_BOUND_ROUNDS, MAX_BOUND_ROUNDS}
+use Rattle.ih_commands.specs.declared.command.bound.TheConstants.{DEFAULT_BOUND_ROUNDS, MAX_BOUND_ROUNDS}
+use Rattle.ih_commands.specs.declared.command.common.TheConstants.{DEFAULT_WORKERS}
 
 -- bound INSTANCE [SOLUTION] [--rounds N] [--workers N]
 unfoldable pub bound_app : App
@@ -64,7 +65,7 @@ bound_in rows = record {
   instance = text_at (codes "INSTANCE") rows;
   solution = first_of (codes "SOLUTION") rows;
   rounds = unwrap_or (number_if_given (codes "rounds") rows) DEFAULT_BOUND_ROUNDS;
-  workers = unwrap_or (number_if_given (codes "workers") rows) DEFAULT_BOUND_WORKERS;
+  workers = unwrap_or (number_if_given (codes "workers") rows) DEFAULT_WORKERS;
 }
 
 -- each call that `clap` finds no fault in is lawful: it writes no file

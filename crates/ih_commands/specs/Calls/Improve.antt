@@ -98,7 +98,7 @@ pub record IsLawfulCall (c : ImproveCall) : Type 0 where
   pub pace : IsLawfulPace c.pace
 
 -- each option is within the limits of its own: the call is lawful if all workers together make few enough attempts and
--- the heat doesn't rise
+-- the temperature doesn't rise
 abbrev pub AreOptionsWithin : ImproveCall → Type 0
 AreOptionsWithin c =
     attempts_of c.pace.length ≤ MAX_CALL_ATTEMPTS → unwrap_or c.settings.cold 0 ≤ unwrap_or c.settings.hot MAX_HEAT
@@ -176,7 +176,7 @@ are_names_apart c =
     all_differ (c.instance ∷ (c.out ∷ option_to_list c.draft))
     && all_differ (c.instance ∷ (start_files c.start ++ option_to_list c.draft))
 
--- the attempts of all workers are so few, and the heat doesn't rise
+-- the attempts of all workers are so few, and the temperature doesn't rise
 abbrev pub are_settings_lawful : ImproveCall → Bool
 are_settings_lawful c =
     (nat_le (attempts_of c.pace.length) MAX_CALL_ATTEMPTS

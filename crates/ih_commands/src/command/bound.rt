@@ -9,7 +9,7 @@ ghost use Rattle.ih_commands.specs.Calls.Bound.{HasBound, HasFewWorkers, IsBound
 ghost use Rattle.ih_commands.specs.Calls.Bound.{bound_inputs, judged_status, judged_of, lawful_bound};
 ghost use Rattle.ih_arguments.specs.Explaining.{IsRead};
 
-use crate::command::common::INSTANCE;
+use crate::command::common::{DEFAULT_WORKERS, INSTANCE, WORKERS};
 use clap::ArgMatches;
 use ih_arguments::argument;
 use ih_arguments::arguments::{Argument, Description, Kind};
@@ -19,7 +19,6 @@ use ih_bound::{Judged, bound, bound_text, judge, no_infeasibility};
 use ih_endings::Status;
 use ih_frame::Outcome;
 use ih_inputs::{InputNames, Inputs};
-use ih_plan::MAX_WORKERS;
 use std::alloc::{AllocError, Global};
 use std::sync::Wait;
 use std::thread::Threads;
@@ -28,8 +27,6 @@ use std::thread::Threads;
 pub const DEFAULT_BOUND_ROUNDS: u32 = 1500;
 /// No more often.
 pub const MAX_BOUND_ROUNDS: u32 = 1_000_000;
-/// How many workers there are where no number is given.
-pub const DEFAULT_BOUND_WORKERS: u32 = 4;
 
 /// `bound INSTANCE` with the solution and the options that it may have.
 #[derive(Clone, Copy, Debug)]
@@ -61,11 +58,7 @@ pub const BOUND: Description<'static, 'static> = Description {
             Kind::OptionalNumber(1, MAX_BOUND_ROUNDS),
             "How often prices are tried at most [default: 1500]"
         ),
-        argument!(
-            "workers",
-            Kind::OptionalNumber(1, MAX_WORKERS),
-            "How many look at patients side by side [default: 4]"
-        ),
+        WORKERS,
     ],
 };
 
@@ -79,7 +72,7 @@ fn bound_in<'a>(matches: &ArgMatches<'a>) -> Bound<'a>
         instance: text_of(matches, "INSTANCE"),
         solution: optional_text_of(matches, "SOLUTION"),
         rounds: number_if_given(matches, "rounds").unwrap_or(DEFAULT_BOUND_ROUNDS),
-        workers: number_if_given(matches, "workers").unwrap_or(DEFAULT_BOUND_WORKERS),
+        workers: number_if_given(matches, "workers").unwrap_or(DEFAULT_WORKERS),
     }
 }
 

@@ -2,6 +2,7 @@
 
 use ih_arguments::argument;
 use ih_arguments::arguments::{Argument, Kind};
+use ih_plan::MAX_WORKERS;
 
 /// The file of the instance.
 pub const INSTANCE: Argument<'static> = argument!(
@@ -16,3 +17,12 @@ pub const SOLUTION: Argument<'static> = argument!(
     Kind::Named,
     "The file of the solution"
 );
+
+/// How many workers look at patients.
+pub const WORKERS: Argument<'static> = argument!(
+    "workers",
+    Kind::OptionalNumber(1, MAX_WORKERS),
+    "How many look at patients side by side [default: 4]"
+);
+/// How many there are where no number is given.
+pub const DEFAULT_WORKERS: u32 = 4;

@@ -103,12 +103,12 @@ pub const IMPROVE: Description<'static, 'static> = Description {
         argument!(
             "hot",
             Kind::OptionalNumber(0, MAX_HEAT),
-            "The heat at the first attempt [default: by the weights]"
+            "The temperature at the first attempt [default: by the weights]"
         ),
         argument!(
             "cold",
             Kind::OptionalNumber(0, MAX_HEAT),
-            "The heat at the last attempt [default: by the weights]"
+            "The temperature at the last attempt [default: by the weights]"
         ),
         argument!(
             "hard",
@@ -286,14 +286,14 @@ fn are_few(workers: u32, attempts: u64) -> bool
         && u128::from(workers) * u128::from(attempts) <= u128::from(MAX_CALL_ATTEMPTS)
 }
 
-// The heat doesn't rise.
+// The temperature doesn't rise.
 fn is_falling(settings: &Given) -> bool
     ensures { result ≡ nat_le (unwrap_or settings.now.cold 0) (unwrap_or settings.now.hot MAX_HEAT) }
 {
     settings.cold.unwrap_or(0) <= settings.hot.unwrap_or(MAX_HEAT)
 }
 
-// The attempts of all workers are so few, and the heat doesn't rise.
+// The attempts of all workers are so few, and the temperature doesn't rise.
 fn are_settings_lawful(improve: &Improve) -> bool
     requires { AreOptionsWithin (improve_call improve.now) }
     ensures value { result ≡ are_settings_lawful (improve_call improve.now) }

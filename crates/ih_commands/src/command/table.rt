@@ -148,7 +148,7 @@ fn refused_words(alloc: Global, matches: &ArgMatches, table: &Table) -> Option<N
     if has_dates(table) {
         None
     } else {
-        Some(refused(alloc, "'--of calendar' wants '--from'"))
+        Some(refused(alloc, "'--of calendar' needs '--from'"))
     }
 }
 

@@ -1,52 +1,74 @@
 //! The command `why`: its description for `clap`, its values and what it comes to.
 
-ghost use Rattle.std.specs.Prelude.{◌≡◌, IfOk, map, string_bytes};
+ghost use Rattle.std.specs.Prelude.{◌≡◌, ◌≤◌, ◌++◌, IfOk, map, string_bytes};
 ghost use Rattle.clap.specs.Words.{found_of, rows_of};
+ghost use Rattle.ih_plan.specs.Timetable.{IsPlanOf};
 ghost use Rattle.ih_arguments.specs.{Explaining.IsRead, Matches.call_by};
-ghost use Rattle.ih_commands.specs.Calls.Why.{IsExplained, lawful_why, nothing_text, why_app, why_call, why_in};
-ghost use Rattle.ih_commands.specs.Calls.Why.{says_nothing, why_inputs, why_text};
+ghost use Rattle.ih_commands.specs.Calls.Why.{AreCauses, HasFewToAsk, HasWhy, IsExplained, explanation, lawful_why};
+ghost use Rattle.ih_commands.specs.Calls.Why.{nothing_text, says_nothing, why_app, why_call, why_in, why_inputs, why_text};
 
 use crate::command::bound::judged_status;
-use crate::command::common::INSTANCE;
+use crate::command::common::{DEFAULT_WORKERS, INSTANCE, WORKERS};
 use clap::ArgMatches;
-use ih_arguments::arguments::Description;
+use ih_arguments::argument;
+use ih_arguments::arguments::{Argument, Description, Kind};
 use ih_arguments::explaining::{NoCall, explained};
-use ih_arguments::matches::{matched, text_of};
+use ih_arguments::matches::{matched, number_if_given, optional_text_of, text_of};
 use ih_frame::Outcome;
 use ih_inputs::{InputNames, Inputs};
-use ih_why::{account, reasons_are_true};
+use ih_tables::Instance;
+use ih_waiting::who_waits;
+use ih_warnings::warnings;
+use ih_why::{account, reasons_are_true, together};
 use std::alloc::{AllocError, Global};
 use std::sync::Wait;
 use std::thread::Threads;
 
-/// `why INSTANCE`.
+/// `why INSTANCE` with the solution and the option that it may have.
 #[derive(Clone, Copy, Debug)]
 pub struct Why<'a> {
     /// The name of the instance's file.
     pub instance: &'a str,
+    /// The name of the solution's file, of which it says who waits.
+    pub solution: Option<&'a str>,
+    /// How many workers look at patients side by side.
+    pub workers: u32,
 }
 
-/// `why INSTANCE`.
+/// `why INSTANCE [SOLUTION] [--workers N]`.
 pub const WHY: Description<'static, 'static> = Description {
     name: "why",
-    about: "Says why no plan can keep all rules, where that is plain",
+    about: "Says why no plan can keep all rules, and who could still be admitted",
     called: "ih_planner why",
-    arguments: &[INSTANCE],
+    arguments: &[
+        INSTANCE,
+        argument!(
+            "SOLUTION",
+            Kind::OptionalNamed,
+            "The file of a solution, of which is said who waits"
+        ),
+        WORKERS,
+    ],
 };
 
 // The values of `why`.
 fn why_in<'a>(matches: &ArgMatches<'a>) -> Why<'a>
-    ensures { why_call result ≡ why_in (rows_of (found_of matches.now)) }
+    requires { HasWhy (rows_of (found_of matches.now)) }
+    ensures value { why_call result ≡ why_in (rows_of (found_of matches.now)) }
+    ensures few { HasFewToAsk result }
 {
     Why {
         instance: text_of(matches, "INSTANCE"),
+        solution: optional_text_of(matches, "SOLUTION"),
+        workers: number_if_given(matches, "workers").unwrap_or(DEFAULT_WORKERS),
     }
 }
 
 // Reads the words of `why`.
 pub(crate) fn read_why<'a>(alloc: Global, words: &'a [String]) -> Result<Why<'a>, NoCall>
-    ensures { IsRead why_call (call_by why_app lawful_why (map string_bytes words.entry.now)) why_app
+    ensures read { IsRead why_call (call_by why_app lawful_why (map string_bytes words.entry.now)) why_app
         (map string_bytes words.entry.now) result }
+    ensures lawful { IfOk result HasFewToAsk }
 {
     match matched(alloc, &WHY, words) {
         Ok(matches) => Ok(why_in(&matches)),
@@ -69,28 +91,71 @@ fn nothing_text(alloc: Global) -> Result<Vec<u8>, AllocError>
     Ok(text.into_bytes())
 }
 
-// What is said by an account.
-fn why_text(alloc: Global, reasons: Vec<u8>) -> Result<Vec<u8>, AllocError>
-    ensures { IfOk result (λ text. text.items ≡ why_text reasons.items) }
+// Why no plan can keep all rules: for one patient, room or shift alone, or else for all together.
+fn causes<R: Threads + Sync>(
+    rt: &R,
+    alloc: Global,
+    inst: &Instance,
+    workers: u32,
+) -> Result<Vec<u8>, AllocError>
+    requires { workers ≤ 64 }
+    ensures { IfOk result (λ text. AreCauses inst.now.draft text.items) }
 {
-    if reasons.is_empty() {
+    // For the proof alone.
+    reasons_are_true(inst);
+    let reasons = account(alloc, inst)?;
+    if !says_nothing(reasons.as_slice()) {
+        return Ok(reasons);
+    }
+    match together(rt, alloc, inst, workers)? {
+        Some(text) => Ok(text),
+        None => Ok(reasons),
+    }
+}
+
+// What is said by the causes.
+fn why_text(alloc: Global, causes: Vec<u8>) -> Result<Vec<u8>, AllocError>
+    ensures { IfOk result (λ text. text.items ≡ why_text causes.items) }
+{
+    if causes.is_empty() {
         nothing_text(alloc)
     } else {
-        Ok(reasons)
+        Ok(causes)
     }
+}
+
+// All that is said: the causes, who waits where a solution is named, and the warnings.
+fn explanation(
+    alloc: Global,
+    call: &Why<'_>,
+    inputs: &Inputs,
+    causes: Vec<u8>,
+) -> Result<Vec<u8>, AllocError>
+    requires { IsPlanOf inputs.now.inst.value.draft inputs.now.plan }
+    ensures { IfOk result (λ text. text.items
+        ≡ explanation (why_call call.now).solution inputs.now.inst.value.draft inputs.now.plan causes.items) }
+{
+    let mut text = why_text(alloc, causes)?;
+    if call.solution.is_some() {
+        let lines = who_waits(alloc, &*inputs.inst, &inputs.plan)?;
+        text.extend_from_slice(lines.as_slice())?;
+    }
+    let lines = warnings(alloc, &*inputs.inst)?;
+    text.extend_from_slice(lines.as_slice())?;
+    Ok(text)
 }
 
 impl<'w> ih_frame::Command for Why<'w> {
     ghost files = { λ w. why_inputs (why_call w) };
 
-    ghost is_lawful = { λ w. Unit {0} };
+    ghost is_lawful = { HasFewToAsk };
 
-    ghost comes_to = { λ w. IsExplained };
+    ghost comes_to = { λ w. IsExplained (why_call w) };
 
     fn names(&self) -> InputNames<'_> {
         InputNames {
             instance: self.instance,
-            solution: None,
+            solution: self.solution,
             older: None,
             journal: None,
             next: None,
@@ -100,16 +165,13 @@ impl<'w> ih_frame::Command for Why<'w> {
 
     fn outcome<'a, R: Threads + Wait + Sync>(
         &'a self,
-        _rt: &R,
+        rt: &R,
         alloc: Global,
         inputs: Inputs,
     ) -> Result<Outcome<'a>, AllocError> {
-        let inst = &*inputs.inst;
-        // For the proof alone.
-        reasons_are_true(inst);
-        let reasons = account(alloc, inst)?;
-        let status = judged_status(says_nothing(reasons.as_slice()));
-        let text = why_text(alloc, reasons)?;
+        let causes = causes(rt, alloc, &*inputs.inst, self.workers)?;
+        let status = judged_status(says_nothing(causes.as_slice()));
+        let text = explanation(alloc, self, &inputs, causes)?;
         Ok(Outcome::said(alloc, status, text))
     }
 }

@@ -10,7 +10,7 @@ const BOUNDS: &str = r#"
 > lay two admitted
 > 0 bound i
 no feasible timetable costs less than 56
-delay 0, left out 0, theatres 50, nurses 6; rounds 3
+delay 0, left out 0, theatres 50, nurses 6; rounds 513
 > alike
 bound i
 bound i --workers 1
@@ -19,14 +19,14 @@ bound i
 bound i --workers 64
 > says 0 bound i s
 no feasible timetable costs less than 56
-delay 0, left out 0, theatres 50, nurses 6; rounds 3
+delay 0, left out 0, theatres 50, nurses 6; rounds 513
 …
 this one costs 159, at most 184.0 % above the best
 > store s
 = uncovered
 > says 9 bound i s
 no feasible timetable costs less than 56
-delay 0, left out 0, theatres 50, nurses 6; rounds 3
+delay 0, left out 0, theatres 50, nurses 6; rounds 513
 …this one breaks hard rules
 > cut 1 6 bound i
 > cut 1 1 bound

@@ -6,38 +6,38 @@ use crate::tests::program::goes;
 // dearer one. A start may be OUT itself. `--replace` doesn't read OUT.
 const KEPT: &str = "
 > lay two uncovered
-> says 0 improve i o --seed 0 --workers 1 --attempts 2000 --rounds 2 --hot 50 --cold 1 --start s --keep 0
-round 1 of 2: 1000 attempts, cost 70, heat 7
-round 2 of 2: 2000 attempts, cost 70, heat 1
+> says 0 improve i o --seed 1 --workers 1 --attempts 2000 --rounds 2 --hot 50 --cold 1 --start s --keep 0
+round 1 of 2: 1000 attempts, cost 70, temperature 7
+round 2 of 2: 2000 attempts, cost 70, temperature 1
 report 0 0 0 0 0 0 0 0 0, 0 0 3 0 2 0 1 0, 70
 > says 0 improve i o --workers 1 --attempts 0 --rounds 1 --start s --keep 0 --draft d
-round 1 of 1: 0 attempts, none yet, heat …
+round 1 of 1: 0 attempts, none yet, temperature …
 o keeps the plan of cost 70
 report 0 0 0 0 0 0 0 0 0, 0 0 3 0 2 0 1 0, 70
 > no d
 > says 0 improve i o --workers 1 --attempts 0 --rounds 1 --start o --keep 0
-round 1 of 1: 0 attempts, cost 70, heat …
+round 1 of 1: 0 attempts, cost 70, temperature …
 o keeps the plan of cost 70
 report 0 0 0 0 0 0 0 0 0, 0 0 3 0 2 0 1 0, 70
 > store p
 = admitted
 > lay two admitted
 > says 0 improve i o --workers 1 --attempts 0 --rounds 1 --start s --keep 0
-round 1 of 1: 0 attempts, cost 159, heat …
+round 1 of 1: 0 attempts, cost 159, temperature …
 o keeps the plan of cost 70
 report 0 0 0 0 0 0 0 0 0, 0 0 3 0 2 0 1 0, 70
 > says 0 improve i p --seed 0 --workers 1 --attempts 2000 --rounds 2 --hot 50 --cold 1 --start o --keep 0
-round 1 of 2: 1000 attempts, cost 70, heat …
+round 1 of 2: 1000 attempts, cost 70, temperature …
 cost 70
 > same o p
 > store p
 = uncovered
 > says 0 improve i p --workers 1 --attempts 0 --rounds 1 --start o --keep 0
-round 1 of 1: 0 attempts, cost 70, heat …
+round 1 of 1: 0 attempts, cost 70, temperature …
 cost 70
 > same o p
 > says 0 improve i o --workers 1 --attempts 0 --rounds 1 --start s --keep 0 --replace
-round 1 of 1: 0 attempts, cost 159, heat …
+round 1 of 1: 0 attempts, cost 159, temperature …
 cost 159
 > 0 check i o
 …
@@ -67,7 +67,7 @@ an older plan
 > 2 improve i o --workers 1 --attempts 9 --start s --keep 0
 cannot read o
 > says 5 improve i o --workers 1 --attempts 0 --rounds 1 --start s --keep 0 --draft d
-round 1 of 1: 0 attempts, none yet, heat …
+round 1 of 1: 0 attempts, none yet, temperature …
 none found
 > is o
 = uncovered

@@ -2,13 +2,31 @@
 
 use crate::tests::program::goes;
 
-// Of the two patients' ward nothing is said, nor of one that is merely full. Then the surgeon has too little time; then
-// the ward has no bed and nobody works late. A full standard output takes no text. A refused file is named.
+// Of the two patients' ward nothing is said, nor of one that is merely full; of a plan it is said who waits, and a weight
+// of 0 is warned of. Then the surgeon has too little time for one, or for both together; then the ward has no bed and
+// nobody works late. A full standard output takes no text. A refused file is named.
 const REASONS: &str = r#"
 > lay two admitted
 > 0 why i
 nothing found that no plan can keep
 > cut 1 6 why i
+> 0 why i s
+nothing found that no plan can keep
+p1 could come on day 1 to r0, theatre t0 only by breaking rules: 1 more, cost +6
+> change i two
+"room_mixed_age":5
+"room_mixed_age":0
+> 0 why i --workers 1
+nothing found that no plan can keep
+warning: the weight of mixed ages is 0
+> change i two
+"mandatory":false
+"mandatory":true,"surgery_due_day":1
+> change i i
+[100,100]
+[60,30]
+> 9 why i
+no feasible plan exists: together the patients who must be admitted need more than there is…
 > change i ward
 "capacity":2
 "capacity":1
@@ -38,11 +56,12 @@ i: instance refused: NotJson at $
 cannot read k
 > each 1 error: …'--help'.
 why
-why i s
+why i s t
 why i --rounds 3
+why i --workers 0
 whys i
 > says 0 why --help
-Says why no plan can keep all rules…
+Says why no plan can keep all rules, and who could still be admitted…
 > no o
 "#;
 

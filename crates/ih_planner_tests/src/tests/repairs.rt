@@ -52,7 +52,7 @@ round 1 of 4: …
 cost before: none, rules are broken, after: 138
 > # a plan of OUT that is no worse, by its cost and its changes, stays
 > says 0 improve i o --seed 0 --workers 1 --attempts 0 --rounds 1 --start s --keep 1
-round 1 of 1: 0 attempts, none yet, heat …
+round 1 of 1: 0 attempts, none yet, temperature …
 cost 138
 ";
 
@@ -82,7 +82,7 @@ cost 75
 > # a patient who breaks a rule stays so: nothing feasible is there
 > lay two uncovered
 > says 5 improve i p --seed 0 --workers 1 --attempts 400 --rounds 2 --start s --keep 1 --pin p0
-round 1 of 2: 200 attempts, none yet, heat …
+round 1 of 2: 200 attempts, none yet, temperature …
 none found
 > no p
 > each 4 unknown patient: p9

@@ -133,7 +133,7 @@ BEGIN:VEVENT\r
 UID:p\\;
 > lines o 12
 > says 1 table i s o --of calendar
-error: '--of calendar' wants '--from'…'--help'.
+error: '--of calendar' needs '--from'…'--help'.
 ";
 
 #[test]

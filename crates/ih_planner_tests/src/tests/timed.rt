@@ -8,11 +8,11 @@ use ih_commands::TestWatch;
 const BY_THE_CLOCK: &str = "
 > lay ward uncovered
 > says 0 improve i o --seconds 10 --seed 0 --workers 1 --hot 0 --cold 0 --empty
-round 1: 1000 attempts, cost 12, heat 0, 9 s left, 1000 attempts a second
-round 2: 1250 attempts, cost 12, heat 0, 8 s left, 250 attempts a second
-round 3: 1312 attempts, cost 12, heat 0, 7 s left, 62 attempts a second
+round 1: 1000 attempts, cost 12, temperature 0, 9 s left, 1000 attempts a second
+round 2: 1250 attempts, cost 12, temperature 0, 8 s left, 250 attempts a second
+round 3: 1312 attempts, cost 12, temperature 0, 7 s left, 62 attempts a second
 …
-round 10: 1335 attempts, cost 12, heat 0, 0 s left, 1 attempts a second
+round 10: 1335 attempts, cost 12, temperature 0, 0 s left, 1 attempts a second
 report 0 0 0 0 0 0 0 0 0, 0 1 1 0 0 0 0 0, 12
 > is o
 = covered
@@ -53,12 +53,12 @@ fn two_names_are_enough(rt: HostRuntime) {
     goes_by(&rt, rt.alloc(), TestWatch::every(20_000_000), NOTHING_ELSE);
 }
 
-// The last fiftieth of the time is one round at heat 0, however hot the others are.
+// The last fiftieth of the time is one round at temperature 0, however hot the others are.
 const COLD_AT_LAST: &str = "
 > lay two uncovered
-> says 0 improve i o --seconds 10 --seed 0 --workers 1 --hot 50 --cold 50 --start s --keep 0
-round 1: 1000 attempts, cost 70, heat …
-round 3: 1053 attempts, cost 70, heat 0, 0 s left, 0 attempts a second
+> says 0 improve i o --seconds 10 --seed 1 --workers 1 --hot 50 --cold 50 --start s --keep 0
+round 1: 1000 attempts, cost 70, temperature …
+round 3: 1053 attempts, cost 70, temperature 0, 0 s left, 0 attempts a second
 report 0 0 0 0 0 0 0 0 0, 0 0 3 0 2 0 1 0, 70
 ";
 
@@ -71,7 +71,7 @@ fn the_last_round_is_cold(rt: HostRuntime) {
 const ONE_ROUND: &str = "
 > lay ward uncovered
 > says 0 improve i o --seconds 10 --seed 0 --workers 1 --hot 0 --cold 0 --empty
-round 1: 1000 attempts, cost 12, heat 0, 10 s left, 0 attempts a second
+round 1: 1000 attempts, cost 12, temperature 0, 10 s left, 0 attempts a second
 report 0 0 0 0 0 0 0 0 0, 0 1 1 0 0 0 0 0, 12
 > is o
 = covered
@@ -81,8 +81,8 @@ report 0 0 0 0 0 0 0 0 0, 0 1 1 0 0 0 0 0, 12
 const TWO_ROUNDS: &str = "
 > lay ward uncovered
 > says 0 improve i o --seconds 10 --seed 0 --workers 1 --hot 0 --cold 0 --empty
-round 1: 1000 attempts, cost 12, heat 0, 9 s left, 1000 attempts a second
-round 2: 1250 attempts, cost 12, heat 0, 9 s left, 1000 attempts a second
+round 1: 1000 attempts, cost 12, temperature 0, 9 s left, 1000 attempts a second
+round 2: 1250 attempts, cost 12, temperature 0, 9 s left, 1000 attempts a second
 report 0 0 0 0 0 0 0 0 0, 0 1 1 0 0 0 0 0, 12
 > is o
 = covered
@@ -101,8 +101,8 @@ fn a_watch_may_fail(rt: HostRuntime) {
 const A_JUMP: &str = "
 > lay ward uncovered
 > says 0 improve i o --seconds 10 --seed 0 --workers 1 --hot 0 --cold 0 --empty
-round 1: 1000 attempts, cost 12, heat 0, 9 s left, 1000 attempts a second
-round 2: 1250 attempts, cost 12, heat 0, 0 s left, 0 attempts a second
+round 1: 1000 attempts, cost 12, temperature 0, 9 s left, 1000 attempts a second
+round 2: 1250 attempts, cost 12, temperature 0, 0 s left, 0 attempts a second
 report 0 0 0 0 0 0 0 0 0, 0 1 1 0 0 0 0 0, 12
 ";
 

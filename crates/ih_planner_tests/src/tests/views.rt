@@ -53,7 +53,7 @@ const SHOWN: &str = "
 > shows p
 ,\"findings\":{\"costs\":[[[1,1,0,0]],[[2,4,0,2]],[[1,6,0,0],[1,6,2,0]],[],[[1,2,0,0]],[],[],[]],\"rules\":[[],[],[],[[40,2,0,0]],[],[],[],[],[[1,4,1,0],[1,4,1,1],[1,4,1,2]]]},
 > shows p
-,\"stays\":[[0,0,0],[0,1,0]]}</script>
+,\"stays\":[[0,0,0],[0,1,0]],\"waits\":[]}}</script>
 > # nobody is admitted, a mandatory patient among them
 > lay two admitted
 > change s admitted
@@ -65,7 +65,7 @@ const SHOWN: &str = "
 > shows p
 \"rules\":[[],[],[],[],[[1,0,0,0]],[],[],[],[]]},
 > shows p
-,\"stays\":[null,null]}</script>
+,\"stays\":[null,null],\"waits\":[[0,{\"broken\":0,\"cost\":36,\"place\":[1,0,0]}],[1,{\"broken\":0,\"cost\":-4,\"place\":[1,0,0]}]]}}</script>
 > # a nurse who is off has an empty room
 > change i two
 [{\"day\":0,\"shift\":\"early\",\"max_load\":10},
@@ -75,7 +75,7 @@ const SHOWN: &str = "
 \"nurses\":[{\"id\":\"n1\",\"assignments\":[{\"day\":0,\"shift\":\"early\",\"rooms\":[\"r1\"]}]},
 > 0 view i s p
 > shows p
-,\"care\":[[0,0,0,0,0,0],[1,null,null,null,null,null]],
+\"plan\":{\"care\":[[0,0,0,0,0,0],[1,null,null,null,null,null]],
 > shows p
 \"rules\":[[],[],[],[],[],[],[],[[1,4,1,0]],[]]},
 > # no text of a file or of the call ends the data, whatever it holds

@@ -11,7 +11,7 @@ const PAGE: &str = r#"
 an older page
 > 0 view i s p
 > shows p
-<script type="application/json" id="data">{"bill":{"cost":12,"costs":[0,1,1,0,0,0,0,0],"rules":[0,0,0,0,0,0,0,0,0]},"care":[[0,0,0]],"changes":null,"findings":{"costs":[[],[[1,4,0,2]],[[1,6,0,0]],[],[],[],[],[]],"rules":[[],[],[],[],[],[],[],[],[]]},"first":null,"heading":{"instance":"i","older":null,"solution":"s","title":"i"},"instance":{"ages":["child","adult","old"],"days":1,"persons":{"occupants":[{"person":{"age":1,"gender":"A","id":"a0","loads":[2,1,1],"skills":[1,0,2],"stay":1},"room":0}],"patients":[]},"places":{"rooms":[{"capacity":2,"id":"r0"}],"theatres":[]},"shifts":["early","late","night"],"staff":{"nurses":[{"id":"n0","shifts":[[0,0,2],[0,1,2],[0,2,2]],"skill":1}],"surgeons":[]},"weights":[5,10,2,1,30,7,4,100]},"stays":[]}</script>
+<script type="application/json" id="data">{"bill":{"cost":12,"costs":[0,1,1,0,0,0,0,0],"rules":[0,0,0,0,0,0,0,0,0]},"changes":null,"findings":{"costs":[[],[[1,4,0,2]],[[1,6,0,0]],[],[],[],[],[]],"rules":[[],[],[],[],[],[],[],[],[]]},"first":null,"heading":{"instance":"i","older":null,"solution":"s","title":"i"},"instance":{"ages":["child","adult","old"],"days":1,"persons":{"occupants":[{"person":{"age":1,"gender":"A","id":"a0","loads":[2,1,1],"skills":[1,0,2],"stay":1},"room":0}],"patients":[]},"places":{"rooms":[{"capacity":2,"id":"r0"}],"theatres":[]},"shifts":["early","late","night"],"staff":{"nurses":[{"id":"n0","shifts":[[0,0,2],[0,1,2],[0,2,2]],"skill":1}],"surgeons":[]},"weights":[5,10,2,1,30,7,4,100]},"plan":{"care":[[0,0,0]],"stays":[],"waits":[]}}</script>
 > cut 1 0 view i s q
 > same p q
 "#;
