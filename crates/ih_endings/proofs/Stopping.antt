@@ -8,13 +8,14 @@ use Rattle.ih_endings.specs.Texts.{memory_text}
 use Rattle.ih_inputs.specs.declared.error.InputRole.TheVariants.{Instance as InstanceInput, Journal as JournalInput, Next as NextInput, Older as OlderInput, Solution as SolutionInput}
 use Rattle.ih_inputs.specs.declared.error.InputError.{InputError}
 use Rattle.ih_inputs.specs.declared.error.InputError.TheVariants.{ReadFault as Unreadable, TooLong as Long, InstanceRefused as NoInstance, NextRefused as NoNext, OlderRefused as NoOlder, SolutionRefused as NoSolution, OutOfMemory as NoRoom}
+use Rattle.ih_inputs.specs.declared.error.Refused.{Refused}
 use Rattle.ih_endings.specs.declared.answer.Answer.{Answer}
 use Rattle.ih_endings.specs.declared.status.Role.TheVariants.{Out}
 use Rattle.ih_endings.specs.declared.status.Status.{Status}
 use Rattle.ih_endings.specs.declared.status.Status.TheVariants.{Done, Usage, ReadFault, InstanceRefused, StartRefused, NoneFound, WriteFault, OutOfMemory, JournalRefused, Infeasible, TooLong}
-use Rattle.ih_endings.specs.Answers.{Answers, HasShelfCause, IsSaid}
-use Rattle.ih_endings.specs.Inputs.{EndsUnread, HasFailedRead, IsUnreadInputs, refused_said, role_in, unread_said, unread_status}
-use Rattle.ih_endings.proofs.Saying.{IsAnswerable, said-answer, said-status, unsaid-by}
+use Rattle.ih_endings.specs.Answers.{Answers, HasShelfCause, IsSaid, IsSaidSo}
+use Rattle.ih_endings.specs.Inputs.{EndsUnread, HasFailedRead, IsUnreadInputs, SaysRefused, SaysUnread, role_in, unread_status}
+use Rattle.ih_endings.proofs.Saying.{IsAnswerable, unsaid-by}
 
 -- ---- their statuses
 
@@ -41,10 +42,10 @@ error-status (Long SolutionInput) = tt
 error-status (Long OlderInput) = tt
 error-status (Long JournalInput) = tt
 error-status (Long NextInput) = tt
-error-status (NoInstance e) = tt
-error-status (NoSolution e) = tt
-error-status (NoOlder e) = tt
-error-status (NoNext e) = tt
+error-status (NoInstance x) = tt
+error-status (NoSolution x) = tt
+error-status (NoOlder x) = tt
+error-status (NoNext x) = tt
 error-status NoRoom = tt
 
 -- the name of a timetable's file
@@ -60,26 +61,27 @@ module _ (files : Option Names) (r : InputFiles) where
   pub unread-memory : EndsUnread files r OutOfMemory memory_text
   unread-memory = (NoRoom, refl, refl, tt)
 
-  lack-said : (e : InputError) → OutOfMemory ≡ unread_status e → unread_said r e ≡ memory_text
-  lack-said (Unreadable role) is = absurd (let clash : OutOfMemory ≡ ReadFault (role_in role) = is in cc)
-  lack-said (Long role) is = absurd (let clash : OutOfMemory ≡ TooLong (role_in role) = is in cc)
-  lack-said (NoInstance e) is = absurd (let clash : OutOfMemory ≡ InstanceRefused e = is in cc)
-  lack-said (NoSolution e) is = absurd (let clash : OutOfMemory ≡ StartRefused e = is in cc)
-  lack-said (NoOlder e) is = absurd (let clash : OutOfMemory ≡ StartRefused e = is in cc)
-  lack-said (NoNext e) is = absurd (let clash : OutOfMemory ≡ InstanceRefused e = is in cc)
-  lack-said NoRoom is = refl
+  lack-said : (e : InputError) (text : List ℕ) → OutOfMemory ≡ unread_status e → SaysUnread r e text → text ≡ memory_text
+  lack-said (Unreadable role) text is said = absurd (let clash : OutOfMemory ≡ ReadFault (role_in role) = is in cc)
+  lack-said (Long role) text is said = absurd (let clash : OutOfMemory ≡ TooLong (role_in role) = is in cc)
+  lack-said (NoInstance x) text is said = absurd (let clash : OutOfMemory ≡ InstanceRefused x.refusal = is in cc)
+  lack-said (NoSolution x) text is said = absurd (let clash : OutOfMemory ≡ StartRefused x.refusal = is in cc)
+  lack-said (NoOlder x) text is said = absurd (let clash : OutOfMemory ≡ StartRefused x.refusal = is in cc)
+  lack-said (NoNext x) text is said = absurd (let clash : OutOfMemory ≡ InstanceRefused x.refusal = is in cc)
+  lack-said NoRoom text is said = said
 
   pub unread-lack : (text : List ℕ) → EndsUnread files r OutOfMemory text → text ≡ memory_text
-  unread-lack text (e, is, said, why) = said ∙ lack-said e is
+  unread-lack text (e, is, said, why) = lack-said e text is said
 
   -- ---- the answer
 
-  -- an answer that was given its file's name
-  pub refused_answer : (status : Status) (text : List ℕ) (name : List ℕ) (a b : Answer) → IsSaid status text a
-      → IsSaid a.status (refused_said r.are_said name a.text.items) b → IsSaid status (refused_said r.are_said name text) b
-  refused_answer status text name a b h (inl lack) = inl lack
-  refused_answer status text name a b (inl lack) (inr (same, said)) = inl (same ∙ lack)
-  refused_answer status text name a b (inr (is, made)) (inr (same, said)) = inr (same ∙ is, said ∙ ap (refused_said r.are_said name) made)
+  -- an answer that was given its file's name and what helps to mend the file
+  pub refused_answer : (status : Status) (line : List ℕ) (name : List ℕ) (x : Refused) (a b : Answer) → IsSaid status line a
+      → IsSaidSo a.status (SaysRefused r.are_said name a.text.items x) b → IsSaidSo status (SaysRefused r.are_said name line x) b
+  refused_answer status line name x a b h (inl lack) = inl lack
+  refused_answer status line name x a b (inl lack) (inr (same, said)) = inl (same ∙ lack)
+  refused_answer status line name x a b (inr (is, made)) (inr (same, said)) =
+      inr (same ∙ is, subst (λ l. SaysRefused r.are_said name l x b.text.items) made said)
 
   pub unread-answerable : IsAnswerable (EndsUnread files r)
   unread-answerable = record {
@@ -89,7 +91,8 @@ module _ (files : Option Names) (r : InputFiles) where
   }
 
   pub stopped-answer : (e : InputError) (a : Answer) → IsUnread files r e → IsUnreadInputs r e a → Answers (EndsUnread files r) a
-  stopped-answer e a h said = said-answer (EndsUnread files r) unread-answerable (unread_status e) (unread_said r e) a (e, refl, refl, h) said
+  stopped-answer e a h (inl memory) = inl (memory, unread-memory)
+  stopped-answer e a h (inr (same, said)) = inr (e, same, said, h)
 
 -- ---- its cause
 
@@ -99,15 +102,15 @@ module _ {X : Type 0} (shelf : ShelfGhosts X) (r : InputFiles) (old new : X) whe
   counted e h = tt
 
   pub stopped-cause : (e : InputError) (a : Answer) → HasReadCause shelf r old new e → IsUnreadInputs r e a → HasShelfCause shelf old new a.status
-  stopped-cause e a h said = said-status (HasShelfCause shelf old new) (unread_status e) (unread_said r e) a (counted e h) tt said
+  stopped-cause e a h (inl lack) = subst (HasShelfCause shelf old new) (sym lack) tt
+  stopped-cause e a h (inr (same, said)) = subst (HasShelfCause shelf old new) (sym same) (counted e h)
 
-  named-read : (e : InputError) → HasReadCause shelf r old new e → HasFailedRead shelf old new (unread_status e) (unread_said r e)
-  named-read (Unreadable role) h = (name_in r role, refl, h)
-  named-read e h = tt
+  named-read : (e : InputError) (text : List ℕ) → HasReadCause shelf r old new e → SaysUnread r e text → HasFailedRead shelf old new (unread_status e) text
+  named-read (Unreadable role) text h said = (name_in r role, said, h)
+  named-read e text h said = tt
 
   pub stopped-read : (e : InputError) (a : Answer) → HasReadCause shelf r old new e → IsUnreadInputs r e a
       → HasFailedRead shelf old new a.status a.text.items
   stopped-read e a h (inl lack) = subst (λ s. HasFailedRead shelf old new s a.text.items) (sym lack) tt
   stopped-read e a h (inr (same, here)) =
-      subst (λ s. HasFailedRead shelf old new s a.text.items) (sym same)
-      (subst (HasFailedRead shelf old new (unread_status e)) (sym here) (named-read e h))
+      subst (λ s. HasFailedRead shelf old new s a.text.items) (sym same) (named-read e a.text.items h here)

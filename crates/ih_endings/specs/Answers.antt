@@ -53,9 +53,13 @@ HasShelfCause shelf old new status =
     HasFileCause (shelf.read_faults old) (shelf.read_faults new) (shelf.write_faults old) (shelf.write_faults new)
     status
 
+-- the answer has this status and a text of which this holds, or memory ran out
+abbrev pub IsSaidSo : Status → (List ℕ → Type 0) → Answer → Type 0
+IsSaidSo status says a = (a.status ≡ OutOfMemory) ⊎ ((a.status ≡ status) × says a.text.items)
+
 -- the answer has this status and this text, or memory ran out
 abbrev pub IsSaid : Status → List ℕ → Answer → Type 0
-IsSaid status text a = (a.status ≡ OutOfMemory) ⊎ ((a.status ≡ status) × (a.text.items ≡ text))
+IsSaid status text a = IsSaidSo status (λ t. t ≡ text) a
 
 -- the answer has this status and the text that was made, or memory ran out as it was made
 abbrev pub IsSaidOf : {S E : Type 0} → (S → List ℕ) → Status → Result S E → Answer → Type 0

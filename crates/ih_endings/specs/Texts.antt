@@ -32,10 +32,6 @@ older_refused_text r = codes "older solution refused: " ++ (refusal_text r ++ co
 abbrev pub new_instance_refused_text : Refusal → List ℕ
 new_instance_refused_text r = codes "new instance refused: " ++ (refusal_text r ++ codes "\n")
 
--- a text after the name of the file that it is about
-abbrev pub after_name : List ℕ → List ℕ → List ℕ
-after_name name text = name ++ (codes ": " ++ text)
-
 -- no timetable was found that breaks no hard rule
 abbrev pub none_found_text : List ℕ
 none_found_text = codes "none found\n"

@@ -1,11 +1,11 @@
 //! The files that a call reads before anything else, and what is said where one of them can't be had.
 
-ghost use Rattle.std.specs.Prelude.{◌≡◌, ◌++◌, IfOk, IfErr, codes};
+ghost use Rattle.std.specs.Prelude.{◌≡◌, ◌++◌, IfOk, IfErr};
 ghost use Rattle.ih_inputs.specs.Errors.{HasOnlyRead};
 ghost use Rattle.ih_inputs.specs.Reading.{ArePlans, HasGiven, files_of, given_of, name_in};
-ghost use Rattle.ih_endings.specs.Answers.{Answers, HasShelfCause, IsSaid};
-ghost use Rattle.ih_endings.specs.Inputs.{EndsUnread, HasFailedRead, IsUnreadInputs, refused_said, role_in};
-ghost use Rattle.ih_endings.specs.Texts.{after_name};
+ghost use Rattle.ih_remedies.specs.Remedies.{IsRemedy};
+ghost use Rattle.ih_endings.specs.Answers.{Answers, HasShelfCause, IsSaidSo};
+ghost use Rattle.ih_endings.specs.Inputs.{EndsUnread, HasFailedRead, IsUnreadInputs, SaysRefused, SaysRemedy, role_in};
 
 use crate::answer::Answer;
 use crate::status::Role;
@@ -13,7 +13,8 @@ use crate::texts::{
     instance_refused, new_instance_refused, older_refused, out_of_memory, solution_refused,
     too_long, unread,
 };
-use ih_inputs::{InputError, InputNames, InputRole, Inputs};
+use ih_inputs::{InputError, InputNames, InputRole, Inputs, Refused};
+use ih_remedies::remedy;
 use ih_shelf::Shelf;
 use std::alloc::{AllocError, Global};
 use std::rt::Files;
@@ -28,21 +29,30 @@ fn role_in(role: InputRole) -> Role
     }
 }
 
-fn after_name(alloc: Global, name: &str, text: &[u8]) -> Result<Vec<u8>, AllocError>
-    ensures { IfOk result (λ t. t.items ≡ after_name name.now text.now) }
+// A refused file's line behind the file's name, and what helps to mend the file.
+fn with_remedy(
+    alloc: Global,
+    name: &str,
+    line: &[u8],
+    file: &Refused,
+) -> Result<Vec<u8>, AllocError>
+    ensures { IfOk result (λ t. SaysRemedy name.now line.now file.now t.items) }
 {
+    let remedy = remedy(alloc, file.bytes.as_slice(), file.refusal)?;
     let mut out = Vec::new(alloc);
     out.extend_from_slice(name.as_bytes())?;
     out.extend_from_slice(b": ")?;
-    out.extend_from_slice(text)?;
+    out.extend_from_slice(line)?;
+    out.extend_from_slice(remedy.as_slice())?;
     Ok(out)
 }
 
-// An answer with its status, and its text behind the name and a colon. Out of memory where the text finds none.
-fn answer_after_name(alloc: Global, name: &str, answer: &Answer) -> Answer
-    ensures { IsSaid answer.now.status (after_name name.now answer.now.text.items) result }
+// An answer with its status, and its line behind the file's name and before what helps to mend the file. Out of memory
+// where that finds none.
+fn answer_with_remedy(alloc: Global, name: &str, answer: &Answer, file: &Refused) -> Answer
+    ensures { IsSaidSo answer.now.status (SaysRemedy name.now answer.now.text.items file.now) result }
 {
-    match after_name(alloc, name, answer.text.as_slice()) {
+    match with_remedy(alloc, name, answer.text.as_slice(), file) {
         Ok(text) => Answer {
             status: answer.status,
             text,
@@ -51,13 +61,20 @@ fn answer_after_name(alloc: Global, name: &str, answer: &Answer) -> Answer
     }
 }
 
-// A refusal's answer, after the name of the file where names are said.
-fn refused(alloc: Global, names: &InputNames<'_>, role: InputRole, answer: Answer) -> Answer
-    ensures { IsSaid answer.status
-        (refused_said (files_of names.now).are_said (name_in (files_of names.now) role) answer.text.items) result }
+// A refused file's answer. Where names are said, it also says what helps to mend the file.
+fn refused(
+    alloc: Global,
+    names: &InputNames<'_>,
+    role: InputRole,
+    answer: Answer,
+    file: &Refused,
+) -> Answer
+    ensures { IsSaidSo answer.status
+        (SaysRefused (files_of names.now).are_said (name_in (files_of names.now) role) answer.text.items file.now)
+        result }
 {
     if names.are_said {
-        answer_after_name(alloc, names.named(role), &answer)
+        answer_with_remedy(alloc, names.named(role), &answer, file)
     } else {
         answer
     }
@@ -71,21 +88,21 @@ fn unread_inputs(alloc: Global, names: &InputNames<'_>, error: InputError) -> An
     match error {
         InputError::ReadFault(role) => unread(alloc, role_in(role), names.named(role)),
         InputError::TooLong(role) => too_long(alloc, role_in(role), names.named(role)),
-        InputError::InstanceRefused(refusal) => {
-            let answer = instance_refused(alloc, refusal);
-            refused(alloc, names, InputRole::Instance, answer)
+        InputError::InstanceRefused(file) => {
+            let answer = instance_refused(alloc, file.refusal);
+            refused(alloc, names, InputRole::Instance, answer, &file)
         }
-        InputError::SolutionRefused(refusal) => {
-            let answer = solution_refused(alloc, refusal);
-            refused(alloc, names, InputRole::Solution, answer)
+        InputError::SolutionRefused(file) => {
+            let answer = solution_refused(alloc, file.refusal);
+            refused(alloc, names, InputRole::Solution, answer, &file)
         }
-        InputError::OlderRefused(refusal) => {
-            let answer = older_refused(alloc, refusal);
-            refused(alloc, names, InputRole::Older, answer)
+        InputError::OlderRefused(file) => {
+            let answer = older_refused(alloc, file.refusal);
+            refused(alloc, names, InputRole::Older, answer, &file)
         }
-        InputError::NextRefused(refusal) => {
-            let answer = new_instance_refused(alloc, refusal);
-            refused(alloc, names, InputRole::Next, answer)
+        InputError::NextRefused(file) => {
+            let answer = new_instance_refused(alloc, file.refusal);
+            refused(alloc, names, InputRole::Next, answer, &file)
         }
         InputError::OutOfMemory => out_of_memory(alloc),
     }
@@ -93,7 +110,8 @@ fn unread_inputs(alloc: Global, names: &InputNames<'_>, error: InputError) -> An
 
 /// Reads the files of a call: the instance, then the timetable, the older one, the journal and the instance that comes next,
 /// where files are named for them. Where one of them can't be had, the answer says why. A file that is said to be
-/// unreadable is the one of which a read failed.
+/// unreadable is the one of which a read failed. Where names are said, a refused file's line stands behind its name, and a
+/// line that helps to mend the file may follow.
 pub fn read_or_answer<R: Files, S: Shelf>(
     rt: &R,
     alloc: Global,

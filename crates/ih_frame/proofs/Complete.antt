@@ -85,17 +85,17 @@ module _ (files : Names) (r : InputFiles) (g : Given) (has : HasGiven (Some file
   by-error (Long JournalInput) calm (name, next, long) =
       let one = journal-given name next.named in
       absurd (let short = one.1.short in let held = ap length one.1.held in omega (arith, short, long, held))
-  by-error (NoInstance e) calm h = absurd (not-both _ g.instance e has.inputs.instance.read h.read)
-  by-error (NoSolution e) calm (J, name, next, refused) = absurd (not-both _ g.plan e (first-given J name next).read refused.read)
-  by-error (NoOlder e) calm (J, name, next, refused) =
+  by-error (NoInstance x) calm h = absurd (not-both _ g.instance x.refusal has.inputs.instance.read h.read)
+  by-error (NoSolution x) calm (J, name, next, refused) = absurd (not-both _ g.plan x.refusal (first-given J name next).read refused.read)
+  by-error (NoOlder x) calm (J, name, next, refused) =
       let one = older-given J name next in
-      absurd (not-both _ one.0 e one.1.read refused.read)
+      absurd (not-both _ one.0 x.refusal one.1.read refused.read)
   by-error (Long NextInput) calm (name, last, long) =
       let one = next-given name last.named in
       absurd (let short = one.1.short in omega (arith, short, long))
-  by-error (NoNext e) calm (name, last, refused) =
+  by-error (NoNext x) calm (name, last, refused) =
       let one = next-given name last.named in
-      absurd (not-both _ one.0 e one.1.read refused.read)
+      absurd (not-both _ one.0 x.refusal one.1.read refused.read)
   by-error NoRoom calm h = refl
 
   pub accepted : (status : Status) (text : List ℕ) → HasNoFault status → EndsUnread (Some files) r status text → status ≡ OutOfMemory

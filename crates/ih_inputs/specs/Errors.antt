@@ -5,7 +5,7 @@ use Rattle.ih_shelf.specs.declared.outside.Shelf.{Ghosts as ShelfGhosts}
 use Rattle.ih_shelf.specs.declared.outside.ReadError.{ReadError}
 use Rattle.ih_shelf.specs.declared.outside.ReadError.TheVariants.{Fault as Unreadable, TooLong as Long, OutOfMemory as NoRoom}
 use Rattle.ih_inputs.specs.declared.error.InputError.{InputError}
-use Rattle.ih_tables.specs.declared.refusals.Refusal.{Refusal}
+use Rattle.ih_inputs.specs.declared.error.Refused.{Refused}
 use Rattle.ih_inputs.specs.declared.error.InputError.TheVariants.{InstanceRefused, NextRefused, ReadFault, OlderRefused, OutOfMemory, SolutionRefused, TooLong}
 use Rattle.ih_inputs.specs.declared.error.InputRole.{InputRole}
 use Rattle.ih_inputs.specs.declared.error.InputRole.TheVariants.{Next, Older}
@@ -17,14 +17,14 @@ error_of_file role Long = TooLong role
 error_of_file role NoRoom = OutOfMemory
 
 -- an instance's refusal, by what its file is to the call
-abbrev pub instance_refused_as : InputRole → Refusal → InputError
-instance_refused_as Next e = NextRefused e
-instance_refused_as role e = InstanceRefused e
+abbrev pub instance_refused_as : InputRole → Refused → InputError
+instance_refused_as Next x = NextRefused x
+instance_refused_as role x = InstanceRefused x
 
 -- a timetable's refusal, by what its file is to the call
-abbrev pub refused_as : InputRole → Refusal → InputError
-refused_as Older e = OlderRefused e
-refused_as role e = SolutionRefused e
+abbrev pub refused_as : InputRole → Refused → InputError
+refused_as Older x = OlderRefused x
+refused_as role x = SolutionRefused x
 
 -- a call that reads may count faults of reads, and changes nothing else
 pub record HasOnlyRead {X : Type 0} (shelf : ShelfGhosts X) (old new : X) : Type 0 where

@@ -1,6 +1,6 @@
 -- The files that a call reads: an instance, and where files are named for them a timetable, an older one, a journal and the
 -- instance that comes next.
-use Rattle.std.specs.Prelude.{◌≡◌, ℕ, ◌≤◌, ◌<◌, Bool, false, true, List, [], length, option_map, unwrap_or, Option, Some, None, Ok, Err, IfSome}
+use Rattle.std.specs.Prelude.{◌≡◌, ℕ, ◌≤◌, ◌<◌, Bool, false, true, List, [], length, option_map, unwrap_or, Option, Some, None, Result, Ok, Err, IfSome}
 use Rattle.ih_tables.specs.declared.drafts.Draft.{Draft}
 use Rattle.ih_tables.specs.declared.refusals.Refusal.{Refusal}
 use Rattle.ih_plan.specs.Timetable.{IsPlanOf, Timetable, empty}
@@ -13,6 +13,7 @@ use Rattle.ih_inputs.specs.declared.reading.InputNames.{InputNames}
 use Rattle.ih_inputs.specs.declared.reading.Inputs.{Inputs}
 use Rattle.ih_inputs.specs.declared.reading.TheConstants.{MAX_FILE, MAX_JOURNAL}
 use Rattle.ih_inputs.specs.declared.error.InputError.{InputError}
+use Rattle.ih_inputs.specs.declared.error.Refused.{Refused}
 use Rattle.ih_inputs.specs.declared.error.InputError.TheVariants.{ReadFault, InstanceRefused, NextRefused, OlderRefused, SolutionRefused, OutOfMemory, TooLong}
 use Rattle.ih_inputs.specs.declared.error.InputRole.{InputRole}
 use Rattle.ih_inputs.specs.declared.error.InputRole.TheVariants.{Instance, Journal, Next, Older, Solution}
@@ -99,13 +100,20 @@ HasInstance name I files = IsReadAs instance name (Ok I) files
 abbrev pub HasSolution : List ℕ → Draft → Timetable → Names → Type 0
 HasSolution name I P files = IsReadAs (plan_in I) name (Ok P) files
 
+-- the file is within its limit, and refused for this reason; these are its bytes
+pub record IsRefusedBy {A : Type 0} (read_by : List ℕ → Result A Refusal) (name : List ℕ) (x : Refused) (files : Names)
+    : Type 0 where
+  pub short : length (bytes_at files name) ≤ MAX_FILE
+  pub read : read_by (bytes_at files name) ≡ Err x.refusal
+  pub held : bytes_at files name ≡ x.bytes.items
+
 -- it is no instance, for this reason
-abbrev pub IsInstanceRefused : List ℕ → Refusal → Names → Type 0
-IsInstanceRefused name e files = IsReadAs instance name (Err e) files
+abbrev pub IsInstanceRefused : List ℕ → Refused → Names → Type 0
+IsInstanceRefused name x files = IsRefusedBy instance name x files
 
 -- it gives no timetable, for this reason
-abbrev pub IsSolutionRefused : List ℕ → Draft → Refusal → Names → Type 0
-IsSolutionRefused name I e files = IsReadAs (plan_in I) name (Err e) files
+abbrev pub IsSolutionRefused : List ℕ → Draft → Refused → Names → Type 0
+IsSolutionRefused name I x files = IsRefusedBy (plan_in I) name x files
 
 -- the file is within the limit of a journal, and has these bytes
 pub record HasBytes (name bytes : List ℕ) (files : Names) : Type 0 where
@@ -189,7 +197,7 @@ IsNoInstance role files name (ReadFault of) = of ≡ role
 IsNoInstance role files name (TooLong of) = (of ≡ role) × IfSome files (IsLong name)
 IsNoInstance role files name OutOfMemory = Unit {0}
 IsNoInstance role files name error =
-    (e : Refusal) × (error ≡ instance_refused_as role e) × IfSome files (IsInstanceRefused name e)
+    (x : Refused) × (error ≡ instance_refused_as role x) × IfSome files (IsInstanceRefused name x)
 
 -- Why a solution's file gives no timetable of the instance: first its length counts, then its form.
 abbrev pub IsNoPlan : InputRole → Option Names → List ℕ → Draft → InputError → Type 0
@@ -197,30 +205,30 @@ IsNoPlan role files name I (ReadFault of) = of ≡ role
 IsNoPlan role files name I (TooLong of) = (of ≡ role) × IfSome files (IsLong name)
 IsNoPlan role files name I OutOfMemory = Unit {0}
 IsNoPlan role files name I error =
-    (e : Refusal) × (error ≡ refused_as role e) × IfSome files (IsSolutionRefused name I e)
+    (x : Refused) × (error ≡ refused_as role x) × IfSome files (IsSolutionRefused name I x)
 
 -- Why the files can't be had. The instance comes first, then the timetable, the older one, the journal and the instance that
 -- comes next; of each file first its length, then its form.
 abbrev pub IsUnread : Option Names → InputFiles → InputError → Type 0
 IsUnread files r (ReadFault Instance) = Unit {0}
 IsUnread files r (TooLong Instance) = IfSome files (IsLong r.instance)
-IsUnread files r (InstanceRefused e) = IfSome files (IsInstanceRefused r.instance e)
+IsUnread files r (InstanceRefused x) = IfSome files (IsInstanceRefused r.instance x)
 IsUnread files r (ReadFault Solution) = (I : Draft) × (name : List ℕ) × IsNext files r I name
 IsUnread files r (TooLong Solution) =
     (I : Draft) × (name : List ℕ) × IsNext files r I name × IfSome files (IsLong name)
-IsUnread files r (SolutionRefused e) =
-    (I : Draft) × (name : List ℕ) × IsNext files r I name × IfSome files (IsSolutionRefused name I e)
+IsUnread files r (SolutionRefused x) =
+    (I : Draft) × (name : List ℕ) × IsNext files r I name × IfSome files (IsSolutionRefused name I x)
 IsUnread files r (ReadFault Older) = (I : Draft) × (name : List ℕ) × IsOlderNext files r I name
 IsUnread files r (TooLong Older) =
     (I : Draft) × (name : List ℕ) × IsOlderNext files r I name × IfSome files (IsLong name)
-IsUnread files r (OlderRefused e) =
-    (I : Draft) × (name : List ℕ) × IsOlderNext files r I name × IfSome files (IsSolutionRefused name I e)
+IsUnread files r (OlderRefused x) =
+    (I : Draft) × (name : List ℕ) × IsOlderNext files r I name × IfSome files (IsSolutionRefused name I x)
 IsUnread files r (ReadFault Journal) = (name : List ℕ) × IsJournalNext files r name
 IsUnread files r (TooLong Journal) =
     (name : List ℕ) × IsJournalNext files r name × IfSome files (IsLongerThan MAX_JOURNAL name)
 IsUnread files r (ReadFault Next) = (name : List ℕ) × IsLastNext files r name
 IsUnread files r (TooLong Next) = (name : List ℕ) × IsLastNext files r name × IfSome files (IsLong name)
-IsUnread files r (NextRefused e) = (name : List ℕ) × IsLastNext files r name × IfSome files (IsInstanceRefused name e)
+IsUnread files r (NextRefused x) = (name : List ℕ) × IsLastNext files r name × IfSome files (IsInstanceRefused name x)
 IsUnread files r OutOfMemory = Unit {0}
 
 -- a fault is answered only where a read of the file with that role failed

@@ -28,25 +28,40 @@ impl fmt::Display for InputRole {
     }
 }
 
+/// A file that is refused.
+#[derive(Drop)]
+pub struct Refused {
+    /// Its first fault.
+    pub refusal: Refusal,
+    /// All its bytes.
+    pub bytes: Vec<u8>,
+}
+
+impl fmt::Display for Refused {
+    fn fmt<W: fmt::Write>(&self, f: &mut fmt::Formatter<W>) -> fmt::Result {
+        self.refusal.fmt(f)
+    }
+}
+
 /// Why the files can't be had.
-#[derive(Clone, Copy, Debug, PartialEq, Eq, Error)]
+#[derive(Drop, Error)]
 pub enum InputError {
     #[error("the {0} file cannot be read")]
     ReadFault(InputRole),
     #[error("the {0} file has more bytes than its limit")]
     TooLong(InputRole),
-    /// The instance's first refusal.
+    /// The instance.
     #[error("instance refused: {0}")]
-    InstanceRefused(Refusal),
-    /// The timetable's first refusal.
+    InstanceRefused(Refused),
+    /// The timetable.
     #[error("solution refused: {0}")]
-    SolutionRefused(Refusal),
-    /// The older timetable's first refusal.
+    SolutionRefused(Refused),
+    /// The older timetable.
     #[error("older solution refused: {0}")]
-    OlderRefused(Refusal),
-    /// The first refusal of the instance that comes next.
+    OlderRefused(Refused),
+    /// The instance that comes next.
     #[error("new instance refused: {0}")]
-    NextRefused(Refusal),
+    NextRefused(Refused),
     #[error("out of memory")]
     OutOfMemory,
 }

@@ -4,5 +4,5 @@
 mod error;
 mod reading;
 
-pub use error::{InputError, InputRole};
+pub use error::{InputError, InputRole, Refused};
 pub use reading::{InputNames, Inputs, MAX_FILE, MAX_JOURNAL, read_inputs};

@@ -8,12 +8,12 @@ ghost use Rattle.ih_inputs.specs.Reading.{name_in, files_of, given_of, ArePlans,
 ghost use Rattle.ih_inputs.specs.Reading.{HasInstance, HasJournal, HasNext, HasOlder, HasReadCause, HasSolution};
 ghost use Rattle.ih_inputs.specs.Reading.{IsNoInstance, IsNoPlan, IsUnread};
 
-use crate::error::{InputError, InputRole};
+use crate::error::{InputError, InputRole, Refused};
 use ih_instance::{InstanceError, read_instance};
 use ih_plan::Plan;
 use ih_shelf::{ReadError, Shelf};
 use ih_solution::{SolutionError, read_solution};
-use ih_tables::{Instance, Refusal};
+use ih_tables::Instance;
 use std::alloc::{AllocError, Global};
 use std::rt::Files;
 
@@ -81,12 +81,12 @@ fn boxed(alloc: Global, inst: Instance) -> Result<Box<Instance>, AllocError>
 }
 
 // An instance's refusal, by what its file is to the call.
-fn instance_refused_as(role: InputRole, refusal: Refusal) -> InputError
-    ensures { result ≡ instance_refused_as role refusal }
+fn instance_refused_as(role: InputRole, file: Refused) -> InputError
+    ensures { result ≡ instance_refused_as role file }
 {
     match role {
-        InputRole::Next => InputError::NextRefused(refusal),
-        _ => InputError::InstanceRefused(refusal),
+        InputRole::Next => InputError::NextRefused(file),
+        _ => InputError::InstanceRefused(file),
     }
 }
 
@@ -109,7 +109,9 @@ fn read_instance_file<R: Files, S: Shelf>(
                 Ok(inst) => Ok(inst),
                 Err(_) => Err(InputError::OutOfMemory),
             },
-            Err(InstanceError::Refused(refusal)) => Err(instance_refused_as(role, refusal)),
+            Err(InstanceError::Refused(refusal)) => {
+                Err(instance_refused_as(role, Refused { refusal, bytes }))
+            }
             Err(InstanceError::OutOfMemory) => Err(InputError::OutOfMemory),
         },
         Err(error) => Err(error_of_file(role, error)),
@@ -132,12 +134,12 @@ fn read_first_instance<R: Files, S: Shelf>(
 }
 
 // A timetable's refusal, by what its file is to the call.
-fn refused_as(role: InputRole, refusal: Refusal) -> InputError
-    ensures { result ≡ refused_as role refusal }
+fn refused_as(role: InputRole, file: Refused) -> InputError
+    ensures { result ≡ refused_as role file }
 {
     match role {
-        InputRole::Older => InputError::OlderRefused(refusal),
-        _ => InputError::SolutionRefused(refusal),
+        InputRole::Older => InputError::OlderRefused(file),
+        _ => InputError::SolutionRefused(file),
     }
 }
 
@@ -159,7 +161,9 @@ fn read_plan<R: Files, S: Shelf>(
     match shelf.read(rt, alloc, name, MAX_FILE) {
         Ok(bytes) => match read_solution(alloc, inst, bytes.as_slice()) {
             Ok(plan) => Ok(plan),
-            Err(SolutionError::Refused(refusal)) => Err(refused_as(role, refusal)),
+            Err(SolutionError::Refused(refusal)) => {
+                Err(refused_as(role, Refused { refusal, bytes }))
+            }
             Err(SolutionError::OutOfMemory) => Err(InputError::OutOfMemory),
         },
         Err(error) => Err(error_of_file(role, error)),
@@ -268,7 +272,8 @@ fn read_next<R: Files, S: Shelf>(
 
 /// Reads the instance; then the timetable of its file, or takes the empty one where no file is named for it; then the
 /// older timetable, the journal and the instance that comes next, where files are named for them. Where one of them can't
-/// be had, the error says why, and nothing behind it is read. A fault is that of a read of the file that the error names.
+/// be had, the error says why, and nothing behind it is read. A fault is that of a read of the file that the error names,
+/// and the bytes of a refused file are those that the refusal is about.
 pub fn read_inputs<R: Files, S: Shelf>(
     rt: &R,
     alloc: Global,

@@ -49,7 +49,7 @@ use Rattle.ih_inputs.specs.declared.error.InputError.TheVariants.{ReadFault as U
 use Rattle.ih_inputs.specs.declared.error.InputRole.TheVariants.{Instance as InstanceInput, Journal as JournalInput, Next as NextInput, Older as OlderInput, Solution as SolutionInput}
 use Rattle.ih_frame.specs.Ends.{HasNoFault}
 use Rattle.ih_top.specs.Commands.{solve_inputs}
-use Rattle.ih_endings.specs.Inputs.{EndsUnread, unread_said, unread_status}
+use Rattle.ih_endings.specs.Inputs.{EndsUnread, SaysUnread, unread_status}
 use Rattle.ih_endings.specs.Ends.{Unchanged}
 use Rattle.ih_endings.specs.Texts.{instance_refused_text, solution_refused_text, too_long_text, none_found_text}
 use Rattle.ih_endings.proofs.Stopping.{named}
@@ -221,33 +221,38 @@ module _ (files : Names) (file : List ℕ) (start : Option (List ℕ)) where
   unnamed : (name : List ℕ) → ◌≡◌ {A = Option (List ℕ)} None (Some name) → ⊥
   unnamed name is = let clash : ◌≡◌ {A = Option (List ℕ)} None (Some name) = is in cc
 
-  by-error : (e : InputError) → HasNoFault (unread_status e) → unread_status e ≢ OutOfMemory → IsUnread (Some files) r e
-      → ◌≡◌ {A = Status × List ℕ} (unread_status e, unread_said r e) (verdict files r)
-  by-error (Unreadable role) calm room h = absurd calm
-  by-error (Long InstanceInput) calm room h =
-      ap (λ (long : Bool). first-verdict files r long (instance (bytes_at files r.instance))) (over MAX_FILE (length (bytes_at files r.instance)) h)
-  by-error (Long SolutionInput) calm room (I, name, next, long) =
-      ap (λ (n : List ℕ). let both : Status × List ℕ = (TooLong Solution, too_long_text n) in both) (named r name next.named)
+  by-error : (e : InputError) (text : List ℕ) → HasNoFault (unread_status e) → unread_status e ≢ OutOfMemory → SaysUnread r e text
+      → IsUnread (Some files) r e → ◌≡◌ {A = Status × List ℕ} (unread_status e, text) (verdict files r)
+  by-error (Unreadable role) text calm room said h = absurd calm
+  by-error (Long InstanceInput) text calm room said h =
+      ap (λ (t : List ℕ). let both : Status × List ℕ = (TooLong Instance, t) in both) said
+      ∙ ap (λ (long : Bool). first-verdict files r long (instance (bytes_at files r.instance))) (over MAX_FILE (length (bytes_at files r.instance)) h)
+  by-error (Long SolutionInput) text calm room said (I, name, next, long) =
+      ap (λ (t : List ℕ). let both : Status × List ℕ = (TooLong Solution, t) in both) said
+      ∙ (ap (λ (n : List ℕ). let both : Status × List ℕ = (TooLong Solution, too_long_text n) in both) (named r name next.named)
       ∙ (ap (λ (over : Bool). start-verdict over (plan_in I (bytes_at files name)) name) (over MAX_FILE (length (bytes_at files name)) long)
-      ∙ at-start I name next)
-  by-error (NoInstance e) calm room h = ap₂ (first-verdict files r) (within MAX_FILE (length (bytes_at files r.instance)) h.short) (sym h.read)
-  by-error (NoSolution e) calm room (I, name, next, refused) =
-      ap₂ (λ (long : Bool) (plan : Result Timetable Refusal). start-verdict long plan name)
+      ∙ at-start I name next))
+  by-error (NoInstance x) text calm room said h =
+      ap (λ (t : List ℕ). let both : Status × List ℕ = (InstanceRefused x.refusal, t) in both) said
+      ∙ ap₂ (first-verdict files r) (within MAX_FILE (length (bytes_at files r.instance)) h.short) (sym h.read)
+  by-error (NoSolution x) text calm room said (I, name, next, refused) =
+      ap (λ (t : List ℕ). let both : Status × List ℕ = (StartRefused x.refusal, t) in both) said
+      ∙ (ap₂ (λ (long : Bool) (plan : Result Timetable Refusal). start-verdict long plan name)
       (within MAX_FILE (length (bytes_at files name)) refused.short) (sym refused.read)
-      ∙ at-start I name next
-  by-error NoRoom calm room h = absurd (room refl)
+      ∙ at-start I name next)
+  by-error NoRoom text calm room said h = absurd (room refl)
   -- no other file is named
-  by-error (Long OlderInput) calm room (I, name, next, long) = absurd (unnamed name next.named)
-  by-error (Long JournalInput) calm room (name, next, long) = absurd (unnamed name next.named)
-  by-error (Long NextInput) calm room (name, last, long) = absurd (unnamed name last.named)
-  by-error (NoOlder e) calm room (I, name, next, refused) = absurd (unnamed name next.named)
-  by-error (NoNext e) calm room (name, last, refused) = absurd (unnamed name last.named)
+  by-error (Long OlderInput) text calm room said (I, name, next, long) = absurd (unnamed name next.named)
+  by-error (Long JournalInput) text calm room said (name, next, long) = absurd (unnamed name next.named)
+  by-error (Long NextInput) text calm room said (name, last, long) = absurd (unnamed name last.named)
+  by-error (NoOlder x) text calm room said (I, name, next, refused) = absurd (unnamed name next.named)
+  by-error (NoNext x) text calm room said (name, last, refused) = absurd (unnamed name last.named)
 
   refused-so : (status : Status) (text : List ℕ) → HasNoFault status → status ≢ OutOfMemory → EndsUnread (Some files) r status text
       → ◌≡◌ {A = Status × List ℕ} (status, text) (verdict files r)
   refused-so status text calm room (e, is, said, why) =
-      ap₂ (λ (s : Status) (t : List ℕ). let both : Status × List ℕ = (s, t) in both) is said
-      ∙ by-error e (subst HasNoFault is calm) (λ lacks. room (is ∙ lacks)) why
+      ap (λ (s : Status). let both : Status × List ℕ = (s, text) in both) is
+      ∙ by-error e text (subst HasNoFault is calm) (λ lacks. room (is ∙ lacks)) said why
 
 -- ---- three kinds of ends
 
