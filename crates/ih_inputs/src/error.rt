@@ -37,14 +37,20 @@ pub struct Refused {
     pub bytes: Vec<u8>,
 }
 
+impl fmt::Debug for Refused {
+    fn fmt<W: fmt::Write>(&self, f: &mut fmt::Formatter<W>) -> fmt::Result {
+        fmt::Display::fmt(&self.refusal, f)
+    }
+}
+
 impl fmt::Display for Refused {
     fn fmt<W: fmt::Write>(&self, f: &mut fmt::Formatter<W>) -> fmt::Result {
-        self.refusal.fmt(f)
+        fmt::Display::fmt(&self.refusal, f)
     }
 }
 
 /// Why the files can't be had.
-#[derive(Drop, Error)]
+#[derive(Debug, Drop, Error)]
 pub enum InputError {
     #[error("the {0} file cannot be read")]
     ReadFault(InputRole),
