@@ -1,0 +1,88 @@
+//! What is said of the file of a small instance that is refused after one change.
+
+use crate::tests::rows::none_is_wrong;
+use ih_fixtures::{TWO_PATIENTS, cut, put_changed};
+use ih_instance::{InstanceError, read_instance};
+use ih_remedies::remedy;
+use std::alloc::Global;
+
+// Whether that is said of a file that is refused.
+fn is_said_of(alloc: Global, file: &[u8], wanted: &str) -> bool {
+    match read_instance(alloc, file) {
+        Err(InstanceError::Refused(refusal)) => match remedy(alloc, file, refusal) {
+            Ok(text) => match format!(in alloc; "  {wanted}\n") {
+                Ok(line) => text.as_slice() == line.as_bytes(),
+                Err(_) => false,
+            },
+            Err(_) => false,
+        },
+        _ => false,
+    }
+}
+
+// Whether that is said after a change.
+fn is_said(alloc: Global, old: &str, new: &str, wanted: &str) -> bool {
+    let mut file = String::new(alloc);
+    matches!(put_changed(&mut file, TWO_PATIENTS, old, new), Ok(true))
+        && is_said_of(alloc, file.as_bytes(), wanted)
+}
+
+// The first row that isn't so: what stands in the instance, what is put in its place, and what is then said.
+fn first_wrong<'t>(alloc: Global, table: &'t str) -> &'t str {
+    for row in table.trim().split('\n') {
+        let (old, rest) = cut(row, " | ");
+        let (new, wanted) = cut(rest, " | ");
+        if !is_said(alloc, old, new, wanted) {
+            return row;
+        }
+    }
+    ""
+}
+
+const FAULTS: &str = r#"
+["r1"] | ["room 4"] | patient "p0": "room 4" is none of this file's rooms: there are "r0", "r1"
+"surgeon_id":"s0" | "surgeon_id":"S0" | patient "p0": "S0" is none of this file's surgeons: there are "s0"
+"shift":"early" | "shift":"Early" | nurse "n0", number 1 of "working_shifts": "Early" is none of this file's shift types: there are "early", "late", "night"
+"surgery_due_day":1, |  | patient "p0" has no "surgery_due_day"
+"length_of_stay":5 | "length_of_stay":"5" | patient "p0": "length_of_stay" is "5", and is to be a whole number from 1 to 100
+"days":2 | "days":200 | the file: "days" is 200, and is to be a whole number from 1 to 56
+"room_mixed_age":5 | "room_mixed_age":2.5 | "weights": "room_mixed_age" is a number that isn't whole, or too large, and is to be a whole number from 0 to 100000
+"id":"p1" | "id":7 | patient number 2: "id" is 7, and is to be a text of 1 to 100 bytes
+"id":"p1" | "id":"p0" | patient "p0": "id" is given twice: "p0"
+"availability":[60,60]},{"id":"t1" | "availability":[60]},{"id":"t1" | operating theater "t0": "availability" has 1 item, and is to have one for each day
+"nurse_eccessive_workload":1, | "nurse_excessive_workload":1,"nurse_eccessive_workload":1, | the file has both "nurse_eccessive_workload" and "nurse_excessive_workload": keep one of them
+"#;
+
+const BROKEN: &str = r#"
+["early","late" | ["early" "late" | line 1, column 51: a comma or a colon is missing before this
+,"unscheduled_optional":100}, | ,"unscheduled_optional":100,}, | line 3, column 95: there is a comma too many before this bracket
+"days" | “days” | line 1, column 2: what begins here isn't JSON; the file has curly quotes: use straight ones
+{"days":2 | {'days':2 | line 1, column 2: texts stand between double quotes
+"#;
+
+#[test]
+fn each_fault_has_its_remedy(rt: HostRuntime) {
+    none_is_wrong(&rt, first_wrong(rt.alloc(), FAULTS));
+    none_is_wrong(&rt, first_wrong(rt.alloc(), BROKEN));
+}
+
+// A file that was saved in another way.
+#[test]
+fn files_of_other_encodings_are_named(rt: HostRuntime) {
+    let alloc = rt.alloc();
+    assert!(rt;
+        is_said_of(
+            alloc,
+            &[239, 187, 191, b'{', b'}'],
+            "the file begins with a byte order mark: save it as UTF-8 without one"
+        )
+    );
+    assert!(rt; is_said_of(alloc, &[255, 254, b'{', 0], "the file is UTF-16: save it as UTF-8"));
+    assert!(rt;
+        is_said_of(
+            alloc,
+            &[b'{', b'\n', b'"', 252, b'"', b'}'],
+            "line 2, column 2: the file isn't UTF-8, perhaps Latin-1: save it as UTF-8"
+        )
+    );
+}
