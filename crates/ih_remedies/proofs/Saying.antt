@@ -7,7 +7,7 @@ use Rattle.serde_json.specs.Data.{Data}
 use Rattle.serde_json.specs.Read.{read}
 use Rattle.ih_tables.specs.declared.refusals.Refusal.{Refusal}
 use Rattle.ih_format.specs.Documents.{value_of}
-use Rattle.ih_remedies.specs.Broken.{IsSaidOfBytes, IsSaidOfSaved, IsSaidOfText, saved_text, stopped_text, unread_text}
+use Rattle.ih_remedies.specs.Broken.{IsSaidOfBytes, IsSaidOfSaved, IsSaidOfText, stopped_text, unread_text}
 use Rattle.ih_remedies.specs.Remedies.{IsSaid}
 use Rattle.ih_remedies.specs.Sentences.{sentence}
 
@@ -43,7 +43,7 @@ text_is_said : (bytes : List ℕ) (o : Option (List ℕ)) (b : Bool) (said : Lis
     → IsSaidOfText bytes b said → IsSaidOfSaved bytes o said
 text_is_said bytes o b said e u h =
     subst (λ (x : Option (List ℕ)). IsSaidOfSaved bytes x said) (sym e)
-        (subst (λ (y : Bool). IsSaidOfText bytes y said) (sym u) h)
+    (subst (λ (y : Bool). IsSaidOfText bytes y said) (sym u) h)
 
 pub stopped_is_said : (bytes : List ℕ) (o : Option (List ℕ)) (n : ℕ) (said : List ℕ) → o ≡ None → IsUtf8 bytes
     → n ≤ length bytes → said ≡ stopped_text bytes n → IsSaidOfSaved bytes o said

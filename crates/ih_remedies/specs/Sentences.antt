@@ -57,7 +57,7 @@ abbrev pub group_name : Option Key → Option Key → List ℕ
 group_name None section = codes "names"
 group_name (Some k) section = group_of k section
 
--- the list of the same file that has it. A solution's references are to the instance, which is another file
+-- the shift types of the same file, where the reference is that of a worked shift
 abbrev pub shifts_under : Key → Option Key
 shifts_under keys.WorkingShifts = Some keys.ShiftTypes
 shifts_under _ = None
@@ -74,6 +74,7 @@ list_by keys.AgeGroup first = Some keys.AgeGroups
 list_by keys.Shift first = shifts_of first
 list_by _ first = None
 
+-- the list of the same file that has what a key refers to. A solution refers to the instance, which is another file
 abbrev pub list_of : Option Key → Option Step → Option Key
 list_of None first = None
 list_of (Some k) first = list_by k first
@@ -136,6 +137,6 @@ sentence faults.Length p d =
 sentence faults.Duplicate p d = duplicate_text (key_at p) (owner p d) (thing p) (value_text (found p d))
 sentence faults.Unknown p d =
     unknown_text (owner p d) (value_text (found p d))
-        (group_text (list_of (key_at p) p.first) (group_name (key_at p) p.section) d)
+    (group_text (list_of (key_at p) p.first) (group_name (key_at p) p.section) d)
 sentence faults.TwoWeights p d = two_weights_text
 sentence faults.TwoNurses p d = two_nurses_text (owner p d) (value_text (found p d))

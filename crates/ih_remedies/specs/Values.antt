@@ -31,7 +31,7 @@ under_step (Some s) d = option_and_then (under_key s.key) (item_at s.at d)
 unfoldable pub found : Place → Data → Option Data
 found p d =
     option_and_then (item_at p.last) (option_and_then (under_step p.second)
-        (option_and_then (under_step p.first) (under_section p.section d)))
+    (option_and_then (under_step p.first) (under_section p.section d)))
 
 -- ---- how they are shown
 

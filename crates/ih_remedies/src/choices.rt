@@ -70,11 +70,7 @@ fn few(items: &[Value]) -> &[Value]
 fn more_text(items: &[Value]) -> &'static str
     ensures { result.now ≡ more_text (map view items.now) }
 {
-    if 5 < items.len() {
-        ", ..."
-    } else {
-        ""
-    }
+    if 5 < items.len() { ", ..." } else { "" }
 }
 
 // The first six that there are.

@@ -73,13 +73,7 @@ fn item_form(key: Key, is_section: bool) -> Form
         Key::MaxSurgeryTime | Key::Availability | Key::WorkloadProduced => Form::Number(0, 100000),
         Key::SkillLevelRequired => Form::Number(0, 1000),
         Key::ShiftTypes | Key::AgeGroups | Key::IncompatibleRoomIds => Form::Text,
-        Key::Rooms => {
-            if is_section {
-                Form::Object
-            } else {
-                Form::Text
-            }
-        }
+        Key::Rooms => { if is_section { Form::Object } else { Form::Text } }
         _ => Form::Object,
     }
 }
@@ -103,9 +97,7 @@ pub fn form_text(alloc: Global, form: Form) -> Text
     ensures { IfOk result (λ s. string_bytes s ≡ form_text form) }
 {
     match form {
-        Form::Number(least, most) => {
-            format!(in alloc; "a whole number from {least} to {most}")
-        }
+        Form::Number(least, most) => { format!(in alloc; "a whole number from {least} to {most}") }
         Form::Day => format!(in alloc; "a whole number from 0 to the last day"),
         Form::DayOrNone => format!(in alloc; "a whole number from 0 to the last day, or \"none\""),
         Form::Text => format!(in alloc; "a text of 1 to 100 bytes"),

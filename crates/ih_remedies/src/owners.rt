@@ -82,11 +82,7 @@ fn id_of(item: &Value) -> Option<&Value>
     ensures { option_map (λ v. view v.now) result ≡ id_of (view item.now) }
 {
     let id = item.get(Key::Id.name())?;
-    if id.is_string() {
-        Some(id)
-    } else {
-        None
-    }
+    if id.is_string() { Some(id) } else { None }
 }
 
 // An item, by its id, or by its number where it has none.

@@ -4,18 +4,24 @@ use crate::tests::rows::none_is_wrong;
 use ih_fixtures::{TWO_PATIENTS, cut, put_changed};
 use ih_instance::{InstanceError, read_instance};
 use ih_remedies::remedy;
+use ih_tables::{Fault, Key, Place, Refusal};
 use std::alloc::Global;
 
-// Whether that is said of a file that is refused.
-fn is_said_of(alloc: Global, file: &[u8], wanted: &str) -> bool {
-    match read_instance(alloc, file) {
-        Err(InstanceError::Refused(refusal)) => match remedy(alloc, file, refusal) {
-            Ok(text) => match format!(in alloc; "  {wanted}\n") {
-                Ok(line) => text.as_slice() == line.as_bytes(),
-                Err(_) => false,
-            },
+// Whether that line is said of a file that is refused so.
+fn is_its_remedy(alloc: Global, file: &[u8], refusal: Refusal, wanted: &str) -> bool {
+    match remedy(alloc, file, refusal) {
+        Ok(text) => match format!(in alloc; "  {wanted}\n") {
+            Ok(line) => text.as_slice() == line.as_bytes(),
             Err(_) => false,
         },
+        Err(_) => false,
+    }
+}
+
+// Whether that is said of an instance's file that is refused.
+fn is_said_of(alloc: Global, file: &[u8], wanted: &str) -> bool {
+    match read_instance(alloc, file) {
+        Err(InstanceError::Refused(refusal)) => is_its_remedy(alloc, file, refusal, wanted),
         _ => false,
     }
 }
@@ -77,12 +83,57 @@ fn files_of_other_encodings_are_named(rt: HostRuntime) {
             "the file begins with a byte order mark: save it as UTF-8 without one"
         )
     );
-    assert!(rt; is_said_of(alloc, &[255, 254, b'{', 0], "the file is UTF-16: save it as UTF-8"));
+    assert!(rt;
+        is_said_of(
+            alloc,
+            &[255, 254, b'{', 0],
+            "the file is UTF-16: save it as UTF-8"
+        )
+    );
     assert!(rt;
         is_said_of(
             alloc,
             &[b'{', b'\n', b'"', 252, b'"', b'}'],
             "line 2, column 2: the file isn't UTF-8, perhaps Latin-1: save it as UTF-8"
+        )
+    );
+}
+
+const SOLUTION: &str =
+    r#"{"patients":[{"id":"p0","admission_day":0,"room":"r7","operating_theater":"t0"}],
+"nurses":[{"id":"n0","assignments":[{"day":0,"shift":"early","rooms":["r0","r0"]}]}]}"#;
+
+// A solution refers to the instance, which is another file.
+#[test]
+fn solutions_have_remedies(rt: HostRuntime) {
+    let alloc = rt.alloc();
+    let file = SOLUTION.as_bytes();
+    let room = Refusal {
+        fault: Fault::Unknown,
+        at: Place::whole().key(Key::Patients).item(0).key(Key::Room),
+    };
+    assert!(rt;
+        is_its_remedy(
+            alloc,
+            file,
+            room,
+            r#"patient "p0": "r7" is none of the instance's rooms"#
+        )
+    );
+    let assignments = Place::whole()
+        .key(Key::Nurses)
+        .item(0)
+        .key(Key::Assignments);
+    let nurse = Refusal {
+        fault: Fault::TwoNurses,
+        at: assignments.item(0).key(Key::Rooms).item(1),
+    };
+    assert!(rt;
+        is_its_remedy(
+            alloc,
+            file,
+            nurse,
+            r#"nurse "n0", number 1 of "assignments": "r0" has a nurse in this shift already"#
         )
     );
 }
