@@ -8,16 +8,14 @@ use Rattle.ih_plan.specs.declared.moves.Write.{Write}
 use Rattle.ih_plan.specs.Timetable.{Timetable}
 use Rattle.ih_fill.specs.Choices.{all_choices}
 use Rattle.ih_fill.specs.FirstLeast.{IsFirstLeastOf}
-use Rattle.ih_fill.proofs.FirstLeast.{before-at_most, cheapest-first}
+use Rattle.ih_fill.proofs.FirstLeast.{before-at_most}
 use Rattle.ih_plan.proofs.TestLemmas.{below, not-below}
 use Rattle.ih_advise.specs.declared.choosing.Advice.{Advice}
 use Rattle.ih_fill.specs.declared.choices.Choice.{Choice}
-use Rattle.ih_advise.specs.Advising.{advice, advice_on, advised, best_write, clearing, replacements, setting_writes, value_of}
+use Rattle.ih_replacements.specs.Replacements.{best_write, replacements, value_of}
+use Rattle.ih_replacements.proofs.Choices.{best-first}
+use Rattle.ih_advise.specs.Advising.{advice, advice_on, advised}
 use Rattle.ih_advise.specs.Laws.{IsBestChange, IsChoice, IsReplacement}
-
-best-first : (I : Draft) (hard : ℕ) (P : Timetable) (s : Choice) → IsFirstLeastOf (value_of I hard P) (replacements I s) (best_write I hard P s)
-unfolding best_write
-best-first I hard P s = cheapest-first (value_of I hard P) (clearing s) (setting_writes I s)
 
 best-least : (I : Draft) (hard : ℕ) (P : Timetable) (s : Choice) (w : Write) → IsReplacement I s w
     → value_of I hard P (best_write I hard P s) ≤ℤ value_of I hard P w

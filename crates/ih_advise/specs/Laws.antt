@@ -8,8 +8,9 @@ use Rattle.ih_plan.specs.BillOf.{change_of_bill}
 use Rattle.ih_fill.specs.declared.choices.Choice.{Choice}
 use Rattle.ih_fill.specs.Choices.{all_choices}
 use Rattle.ih_fill.specs.FirstLeast.{IsFirstLeastOf}
+use Rattle.ih_replacements.specs.Replacements.{replacements, value_of}
 use Rattle.ih_advise.specs.declared.choosing.Advice.{Advice}
-use Rattle.ih_advise.specs.Advising.{advice, replacements, value_of}
+use Rattle.ih_advise.specs.Advising.{advice}
 use Rattle.ih_advise.specs.Texts.{advice_text}
 
 -- w may replace the choice c

@@ -11,7 +11,7 @@ use Rattle.ih_endings.proofs.Stopping.{unread-only}
 use Rattle.ih_frame.specs.Ends.{IsPerformed}
 use Rattle.ih_frame.specs.Outcomes.{IsLeft, OutcomeState}
 use Rattle.ih_commands.specs.Calls.Bound.{judged_status}
-use Rattle.ih_commands.specs.Calls.Why.{IsExplained, WhyCall, nothing_text, says_nothing, waiting_in, why_inputs, why_text}
+use Rattle.ih_commands.specs.Calls.Why.{IsExplained, WhyCall, nothing_text, plan_text_in, says_nothing, why_inputs, why_text}
 use Rattle.ih_commands.specs.Laws.{ExplainedCallsHaveNoPlan, HasNoPlan}
 
 -- with such a status there are causes, and they are said
@@ -36,7 +36,7 @@ module _ (w : WhyCall) (old new : Option Names) (text : List ℕ) where
       by_left (inl (written, inl same, said)) =
           let causes = p.comes.causes in
           let found = some-said causes (says_nothing causes) refl (same ∙ status) in
-          let waits : List ℕ = waiting_in w.solution p.given.instance p.given.plan in
+          let waits : List ℕ = plan_text_in w.solution p.given.instance p.given.plan in
           let slips : List ℕ = warnings p.given.instance in
           let more : List ℕ = waits ++ slips in
           record {

@@ -3,6 +3,7 @@
 mod instance;
 mod journal;
 mod limits;
+mod mends;
 mod remedies;
 mod replacing;
 mod rows;

@@ -13,3 +13,4 @@ pub use admissions::cheapest_admission;
 pub use changes::{broken_more, change_by};
 pub use laws::{admissions_are_true, nobody_is_passed_over};
 pub use lines::who_waits;
+pub use sentences::{Text, change_text};

@@ -8,6 +8,7 @@ use Rattle.ih_bound.specs.Bounds.{NoneIsFeasible}
 use Rattle.ih_why.specs.Account.{account}
 use Rattle.ih_why.specs.Shortages.{IsToldTogether}
 use Rattle.ih_waiting.specs.Waiting.{waiting_text}
+use Rattle.ih_mends.specs.Texts.{mends_text}
 use Rattle.ih_warnings.specs.Warnings.{warnings}
 use Rattle.ih_arguments.specs.Arguments.{named, optional_between, optional_name}
 use Rattle.ih_arguments.specs.Matches.{HasText, IsNumberIfGiven, number_if_given, text_at}
@@ -81,17 +82,21 @@ nothing_text = codes "nothing found that no plan can keep\n"
 abbrev pub why_text : List ℕ → List ℕ
 why_text causes = if says_nothing causes then nothing_text else causes
 
--- who waits in a timetable, where a file is named for it
-abbrev pub waiting_in : Option Text → Draft → Timetable → List ℕ
-waiting_in None I P = []
-waiting_in (Some name) I P = waiting_text I P
+-- what is said of a timetable: who waits, and what mends each rule that is broken
+abbrev pub plan_text : Draft → Timetable → List ℕ
+plan_text I P = waiting_text I P ++ mends_text I P
 
--- all that is said: the causes, who waits, and what may be a slip in the instance
+-- it is said where a file is named for the timetable
+abbrev pub plan_text_in : Option Text → Draft → Timetable → List ℕ
+plan_text_in None I P = []
+plan_text_in (Some name) I P = plan_text I P
+
+-- all that is said: the causes, what is said of the timetable, and what may be a slip in the instance
 abbrev pub explanation : Option Text → Draft → Timetable → List ℕ → List ℕ
-explanation solution I P causes = why_text causes ++ waiting_in solution I P ++ warnings I
+explanation solution I P causes = why_text causes ++ plan_text_in solution I P ++ warnings I
 
 -- What a call of why comes to: the causes are said, or that none was found, with a status by which of the two; then who
--- waits, and the warnings. Nothing is written.
+-- waits and what mends broken rules, and the warnings. Nothing is written.
 pub record IsExplained (w : WhyCall) (g : Given) (o : OutcomeState) : Type 0 where
   pub causes : List ℕ
   pub are_causes : AreCauses g.instance causes

@@ -5,7 +5,8 @@ ghost use Rattle.clap.specs.Words.{found_of, rows_of};
 ghost use Rattle.ih_plan.specs.Timetable.{IsPlanOf};
 ghost use Rattle.ih_arguments.specs.{Explaining.IsRead, Matches.call_by};
 ghost use Rattle.ih_commands.specs.Calls.Why.{AreCauses, HasFewToAsk, HasWhy, IsExplained, explanation, lawful_why};
-ghost use Rattle.ih_commands.specs.Calls.Why.{nothing_text, says_nothing, why_app, why_call, why_in, why_inputs, why_text};
+ghost use Rattle.ih_commands.specs.Calls.Why.{nothing_text, plan_text, says_nothing, why_app, why_call, why_in};
+ghost use Rattle.ih_commands.specs.Calls.Why.{why_inputs, why_text};
 
 use crate::command::bound::judged_status;
 use crate::command::common::{DEFAULT_WORKERS, INSTANCE, WORKERS};
@@ -16,6 +17,8 @@ use ih_arguments::explaining::{NoCall, explained};
 use ih_arguments::matches::{matched, number_if_given, optional_text_of, text_of};
 use ih_frame::Outcome;
 use ih_inputs::{InputNames, Inputs};
+use ih_mends::mends;
+use ih_plan::Plan;
 use ih_tables::Instance;
 use ih_waiting::who_waits;
 use ih_warnings::warnings;
@@ -29,7 +32,7 @@ use std::thread::Threads;
 pub struct Why<'a> {
     /// The name of the instance's file.
     pub instance: &'a str,
-    /// The name of the solution's file, of which it says who waits.
+    /// The name of the solution's file, of which it says who waits and what mends broken rules.
     pub solution: Option<&'a str>,
     /// How many workers look at patients side by side.
     pub workers: u32,
@@ -45,7 +48,7 @@ pub const WHY: Description<'static, 'static> = Description {
         argument!(
             "SOLUTION",
             Kind::OptionalNamed,
-            "The file of a solution, of which is said who waits"
+            "The file of a solution: who waits, and what mends broken rules"
         ),
         WORKERS,
     ],
@@ -124,7 +127,18 @@ fn why_text(alloc: Global, causes: Vec<u8>) -> Result<Vec<u8>, AllocError>
     }
 }
 
-// All that is said: the causes, who waits where a solution is named, and the warnings.
+// What is said of a plan: who waits, and what mends each rule that is broken.
+fn plan_text(alloc: Global, inst: &Instance, plan: &Plan) -> Result<Vec<u8>, AllocError>
+    requires { IsPlanOf inst.now.draft plan.now }
+    ensures { IfOk result (λ text. text.items ≡ plan_text inst.now.draft plan.now) }
+{
+    let mut text = who_waits(alloc, inst, plan)?;
+    let lines = mends(alloc, inst, plan)?;
+    text.extend_from_slice(lines.as_slice())?;
+    Ok(text)
+}
+
+// All that is said: the causes, what is said of the plan where a solution is named, and the warnings.
 fn explanation(
     alloc: Global,
     call: &Why<'_>,
@@ -137,7 +151,7 @@ fn explanation(
 {
     let mut text = why_text(alloc, causes)?;
     if call.solution.is_some() {
-        let lines = who_waits(alloc, &*inputs.inst, &inputs.plan)?;
+        let lines = plan_text(alloc, &*inputs.inst, &inputs.plan)?;
         text.extend_from_slice(lines.as_slice())?;
     }
     let lines = warnings(alloc, &*inputs.inst)?;

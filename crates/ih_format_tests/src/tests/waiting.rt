@@ -9,13 +9,13 @@ use ih_waiting::who_waits;
 use std::alloc::Global;
 
 // Nobody is admitted, and the second nurse has each room in each shift.
-const PLAN: &str = r#"{"patients":[],"nurses":[{"id":"n1","assignments":[
+pub(crate) const PLAN: &str = r#"{"patients":[],"nurses":[{"id":"n1","assignments":[
 {"day":0,"shift":"early","rooms":["r0","r1"]},{"day":0,"shift":"late","rooms":["r0","r1"]},
 {"day":0,"shift":"night","rooms":["r0","r1"]},{"day":1,"shift":"early","rooms":["r0","r1"]},
 {"day":1,"shift":"late","rooms":["r0","r1"]},{"day":1,"shift":"night","rooms":["r0","r1"]}]}]}"#;
 
 // The first patient is admitted, and no room has a nurse.
-const ONE_ADMITTED: &str = r#"{"patients":[
+pub(crate) const ONE_ADMITTED: &str = r#"{"patients":[
 {"id":"p0","admission_day":1,"room":"r0","operating_theater":"t0"}],"nurses":[]}"#;
 
 // Both are.
@@ -24,7 +24,7 @@ const ALL_ADMITTED: &str = r#"{"patients":[
 {"id":"p1","admission_day":0,"room":"r1","operating_theater":"t0"}],"nurses":[]}"#;
 
 // Whether a text has these lines.
-fn has_lines(alloc: Global, text: &[u8], wanted: &str) -> bool {
+pub(crate) fn has_lines(alloc: Global, text: &[u8], wanted: &str) -> bool {
     let mut lines = String::new(alloc);
     for line in wanted.split(" / ") {
         if lines.push_str(line).is_err() || lines.push_str("\n").is_err() {

@@ -7,9 +7,9 @@ use Rattle.ih_fill.specs.declared.candidates.Candidate.{Candidate}
 use Rattle.ih_fill.specs.Candidates.{cheapest, stay_writes, valued}
 use Rattle.ih_fill.specs.ScorerState.{stay_value}
 use Rattle.ih_fill.specs.declared.choices.Choice.{Choice}
-use Rattle.ih_advise.specs.Advising.{best_of, best_write, value_of}
-use Rattle.ih_advise.proofs.Choices.{stay-whole}
-use Rattle.ih_advise.proofs.choosing.best.Goals as goal
+use Rattle.ih_replacements.specs.Replacements.{best_of, best_write, value_of}
+use Rattle.ih_replacements.proofs.Choices.{stay-whole}
+use Rattle.ih_replacements.proofs.replacing.best_replacement.Goals as goal
 
 pub returns-in-Stay-clause-best : goal.returns-in-Stay-clause-best
 unfolding best_write

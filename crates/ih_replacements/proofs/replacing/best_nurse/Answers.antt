@@ -4,9 +4,9 @@ use Rattle.ih_plan.specs.Writes.{IsWriteOf}
 use Rattle.ih_fill.specs.declared.candidates.Candidate.{Candidate}
 use Rattle.ih_fill.specs.Candidates.{care_writes}
 use Rattle.ih_fill.proofs.CandidateLemmas.{cheaper-either, no-nurse-fits}
-use Rattle.ih_advise.specs.Advising.{best_write}
-use Rattle.ih_advise.proofs.Choices.{nurse-best}
-use Rattle.ih_advise.proofs.choosing.best_nurse.Goals as goal
+use Rattle.ih_replacements.specs.Replacements.{best_write}
+use Rattle.ih_replacements.proofs.Choices.{nurse-best}
+use Rattle.ih_replacements.proofs.replacing.best_nurse.Goals as goal
 
 pub returns-in-None-clause-best : goal.returns-in-None-clause-best
 unfolding best_write

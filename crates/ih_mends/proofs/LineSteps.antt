@@ -1,0 +1,6 @@
+-- One more line.
+use Rattle.std.proofs.Common.{append_assoc}
+use Rattle.std.proofs.lemmas.List.{append-nil}
+use Rattle.ih_validate.proofs.Lines.{line_steps}
+
+pub ruleset part_steps = (line_steps, append-nil, append_assoc)

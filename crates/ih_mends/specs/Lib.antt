@@ -1,0 +1,5 @@
+pub mod Mends
+pub mod Sentences
+pub mod Texts
+pub mod Changes
+pub mod Laws
