@@ -11,3 +11,6 @@ pub mod DealtLemmas
 pub mod FloorLemmas
 pub mod PutLemmas
 pub mod HowFar
+pub mod HintLemmas
+pub mod GreatestLemmas
+pub mod Telling

@@ -6,3 +6,4 @@ pub mod Least
 pub mod Dealing
 pub mod Judging
 pub mod Texts
+pub mod Hints

@@ -3,7 +3,8 @@
 ghost use Rattle.std.specs.Prelude.{◌≤◌, All, IfOk};
 ghost use Rattle.ih_plan.specs.Timetable.{Timetable};
 ghost use Rattle.ih_bound.specs.Bounds.{IsFeasible};
-ghost use Rattle.ih_bound.specs.Tariffs.{worth};
+ghost use Rattle.ih_bound.specs.Hints.{Shows};
+ghost use Rattle.ih_bound.specs.Tariffs.{tariff_of, worth};
 ghost use Rattle.ih_bound.specs.Dealing.{HasFloors};
 
 use crate::climbing::{Climb, Effort};
@@ -19,7 +20,7 @@ use std::thread::Threads;
 #[derive(Drop)]
 pub struct Ascent {
     pub value: u64,
-    /// The prices that showed it. Nothing rests on them.
+    /// The prices that show it.
     pub prices: Prices,
     /// How often prices were tried.
     pub rounds: u32,
@@ -38,6 +39,8 @@ pub fn ascend<R: Threads + Sync>(
 ) -> Result<Ascent, AllocError>
     ensures value { IfOk result (λ a. (P : Timetable) → IsFeasible inst.now.draft P
         → a.value ≤ worth inst.now.draft rates.now P) }
+    ensures shows { IfOk result (λ a. Shows inst.now.draft rates.now
+        (tariff_of inst.now.draft rates.now a.prices) a.value) }
     ensures rounds { IfOk result (λ a. a.rounds ≤ effort.rounds) }
 {
     let mut workers = new_workers(alloc, inst, workers)?;
@@ -56,22 +59,23 @@ fn ascend_by<R: Threads + Sync>(
     requires { All (HasFloors inst.now.draft rates.now) workers.old }
     ensures value { IfOk result (λ a. (P : Timetable) → IsFeasible inst.now.draft P
         → a.value ≤ worth inst.now.draft rates.now P) }
+    ensures shows { IfOk result (λ a. Shows inst.now.draft rates.now
+        (tariff_of inst.now.draft rates.now a.prices) a.value) }
     ensures rounds { IfOk result (λ a. a.rounds ≤ effort.rounds) }
 {
     raise_floors(rt, inst, rates, &Prices::free(alloc), workers);
     let mut climb = Climb::new(alloc, inst, rates, effort.plain)?;
-    let mut best: u64 = 0;
     let mut rounds = 0;
     for round in 0..effort.rounds {
         let value = evaluate(rt, inst, rates, &climb.prices, workers);
         rounds = round + 1;
-        best = best.max(value);
         if !climb.go_on(inst, rates, &effort, round, value, workers) {
             break;
         }
     }
+    // Once more at the best prices, so that the value is what just these show.
     Ok(Ascent {
-        value: best,
+        value: evaluate(rt, inst, rates, &climb.best_prices, workers),
         rounds,
         spent: climb.spent,
         prices: climb.best_prices,

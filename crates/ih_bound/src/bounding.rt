@@ -3,14 +3,16 @@
 ghost use Rattle.std.specs.Prelude.{◌≡◌, ◌≤◌, ◌+◌, ◌*◌, ◌<◌, IfOk, IfSome};
 ghost use Rattle.ih_plan.specs.Timetable.{Timetable};
 ghost use Rattle.ih_bound.specs.Bounds.{IsFeasible, NoneIsFeasible, HoldsOfAll, AddUp, IsFoundIn};
+ghost use Rattle.ih_bound.specs.Hints.{HasPrices};
 ghost use Rattle.ih_bound.specs.Tariffs.{worth};
+ghost use Rattle.std.specs.Int.{div_ceil};
 
 use crate::ascending::{Ascent, ascend};
 use crate::climbing::Effort;
 use crate::demand::Spent;
-use crate::outcomes::{Bound, Outcome, Parts};
+use crate::outcomes::{Bound, Outcome, Parts, Priced};
 use crate::people::window_end;
-use crate::prices::Rates;
+use crate::prices::{Prices, Rates};
 use crate::scarcity::Scarcity;
 use ih_tables::{Instance, PatientNo, Shift};
 use std::alloc::{AllocError, Global};
@@ -101,6 +103,7 @@ fn parts_of(value: u64, spent: &Spent) -> Parts
 // The best of all rounds in units of the cost, rounded up.
 fn in_units(best: &Ascent) -> Bound
     ensures value { result.value * 4096 ≤ best.now.value + 4095 }
+    ensures rounded { result.value ≡ div_ceil best.now.value 4096 }
     ensures rounds { result.rounds ≡ best.now.rounds }
     ensures parts { result.parts.delay + result.parts.left_out + result.parts.theatres + result.parts.nurses
         ≡ result.value }
@@ -134,8 +137,43 @@ pub fn refute<R: Threads + Sync>(
     }))
 }
 
-/// What no feasible timetable of an instance costs less than, or that there is none: the best that prices in so many
-/// rounds show, or in fewer where a round is dear. Persons are dealt to so many workers, one at least.
+/// What no feasible timetable of an instance costs less than, with prices that show it, or that there is none: the best
+/// that prices in so many rounds show, or in fewer where a round is dear. Persons are dealt to so many workers, one at
+/// least.
+pub fn bound_with_prices<R: Threads + Sync>(
+    rt: &R,
+    alloc: Global,
+    inst: &Instance,
+    rounds: u32,
+    workers: u32,
+) -> Result<Priced, AllocError>
+    requires few { workers ≤ 64 }
+    ensures holds { IfOk result (λ f. HoldsOfAll inst.now.draft f.outcome) }
+    ensures parts { IfOk result (λ f. AddUp f.outcome) }
+    ensures rounds { IfOk result (λ f. IsFoundIn rounds f.outcome) }
+    ensures prices { IfOk result (λ f. HasPrices inst.now.draft f f.outcome) }
+{
+    let rates = Rates::weights(inst);
+    if refute(rt, alloc, inst, workers)?.is_some() {
+        return Ok(Priced {
+            outcome: Outcome::Infeasible,
+            rates,
+            prices: Prices::free(alloc),
+            shown: 0,
+        });
+    }
+    let workers = workers.max(1) as usize;
+    let effort = with_weights(inst, &rates, rounds_within(inst, rounds));
+    let best = ascend(rt, alloc, inst, &rates, effort, workers)?;
+    Ok(Priced {
+        outcome: Outcome::AtLeast(in_units(&best)),
+        rates,
+        shown: best.value,
+        prices: best.prices,
+    })
+}
+
+/// The same without the prices.
 pub fn bound<R: Threads + Sync>(
     rt: &R,
     alloc: Global,
@@ -148,12 +186,6 @@ pub fn bound<R: Threads + Sync>(
     ensures parts { IfOk result AddUp }
     ensures rounds { IfOk result (IsFoundIn rounds) }
 {
-    if refute(rt, alloc, inst, workers)?.is_some() {
-        return Ok(Outcome::Infeasible);
-    }
-    let workers = workers.max(1) as usize;
-    let rates = Rates::weights(inst);
-    let effort = with_weights(inst, &rates, rounds_within(inst, rounds));
-    let best = ascend(rt, alloc, inst, &rates, effort, workers)?;
-    Ok(Outcome::AtLeast(in_units(&best)))
+    let found = bound_with_prices(rt, alloc, inst, rounds, workers)?;
+    Ok(found.outcome)
 }

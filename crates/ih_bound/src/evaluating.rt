@@ -3,7 +3,8 @@
 ghost use Rattle.std.specs.Prelude.{◌≤◌, All};
 ghost use Rattle.ih_plan.specs.Timetable.{Timetable};
 ghost use Rattle.ih_bound.specs.Bounds.{IsFeasible};
-ghost use Rattle.ih_bound.specs.Tariffs.{worth};
+ghost use Rattle.ih_bound.specs.Hints.{Shows};
+ghost use Rattle.ih_bound.specs.Tariffs.{tariff_of, worth};
 ghost use Rattle.ih_bound.specs.Dealing.{HasFloors};
 
 use crate::dealing::{BoundWorker, sum_all, sum_of};
@@ -23,6 +24,7 @@ pub fn evaluate<R: Threads + Sync>(
 ) -> u64
     requires { All (HasFloors inst.now.draft rates.now) workers.old }
     ensures floors { All (HasFloors inst.now.draft rates.now) workers.new }
+    ensures shows { Shows inst.now.draft rates.now (tariff_of inst.now.draft rates.now prices.now) result }
     ensures least { (P : Timetable) → IsFeasible inst.now.draft P → result ≤ worth inst.now.draft rates.now P }
 {
     sum_all(rt, inst, rates, prices, workers);

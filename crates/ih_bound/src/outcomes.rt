@@ -1,5 +1,7 @@
 //! What is found on an instance.
 
+use crate::prices::{Prices, Rates};
+
 /// Where a bound comes from, in units of the weighted cost: what it would cost by the choices of the last rounds, on
 /// average, that patients wait and are left out and that theatres open; and all the rest, which is of nurses.
 #[derive(Clone, Copy, Debug, PartialEq, Eq)]
@@ -28,4 +30,15 @@ pub enum Outcome {
     Infeasible,
     /// None costs less.
     AtLeast(Bound),
+}
+
+/// What is said, and the prices that show it. Where no timetable is feasible, they are empty.
+#[derive(Drop)]
+pub struct Priced {
+    pub outcome: Outcome,
+    // What a unit of each cost is worth.
+    pub(crate) rates: Rates,
+    pub(crate) prices: Prices,
+    // What they show, in parts.
+    pub(crate) shown: u64,
 }

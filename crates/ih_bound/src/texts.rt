@@ -9,15 +9,15 @@ use crate::outcomes::{Outcome, Parts};
 use itoa::Buffer;
 use std::alloc::{AllocError, Global};
 
-// Appends a text.
-fn put(out: &mut Vec<u8>, text: &str) -> Result<(), AllocError>
+/// Appends a text.
+pub fn put(out: &mut Vec<u8>, text: &str) -> Result<(), AllocError>
     ensures { OnOk result (out.new.items ≡ out.old.items ++ text.now) }
 {
     out.extend_from_slice(text.as_bytes())
 }
 
-// Appends a name and a number.
-fn put_number(out: &mut Vec<u8>, name: &str, number: u64) -> Result<(), AllocError>
+/// Appends a name and a number.
+pub fn put_number(out: &mut Vec<u8>, name: &str, number: u64) -> Result<(), AllocError>
     ensures { OnOk result (out.new.items ≡ out.old.items ++ (name.now ++ decimal number)) }
 {
     put(out, name)?;

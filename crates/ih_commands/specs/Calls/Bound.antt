@@ -1,9 +1,9 @@
 -- The command `bound`: its description for `clap`, its values and what it comes to.
-use Rattle.std.specs.Prelude.{◌≡◌, ℕ, ◌≤◌, Bool, true, false, List, Option, Some, codes, option_map, unwrap_or}
+use Rattle.std.specs.Prelude.{◌≡◌, ℕ, ◌≤◌, Bool, true, false, List, [], ◌++◌, Option, Some, codes, option_map, unwrap_or}
 use Rattle.clap.specs.Words.{App, Row, Text, first_of, new_app, with_rule}
 use Rattle.ih_plan.specs.declared.limits.TheConstants.{MAX_WORKERS}
-use Rattle.ih_arguments.specs.Arguments.{named, optional_between, optional_name}
-use Rattle.ih_arguments.specs.Matches.{HasText, IsNumberIfGiven, number_if_given, text_at}
+use Rattle.ih_arguments.specs.Arguments.{flag, named, optional_between, optional_name}
+use Rattle.ih_arguments.specs.Matches.{HasText, IsNumberIfGiven, flag_at, number_if_given, text_at}
 use Rattle.ih_tables.specs.declared.drafts.Draft.{Draft}
 use Rattle.ih_plan.specs.Timetable.{Timetable}
 use Rattle.ih_inputs.specs.Reading.{Given, InputFiles, said_files}
@@ -11,6 +11,7 @@ use Rattle.ih_endings.specs.declared.status.Status.{Status}
 use Rattle.ih_endings.specs.declared.status.Status.TheVariants.{Done, Infeasible as NotFeasible}
 use Rattle.ih_frame.specs.Outcomes.{OutcomeState, says}
 use Rattle.ih_bound.specs.Bounds.{AddUp, HoldsOfAll, IsFoundIn}
+use Rattle.ih_bound.specs.Hints.{IsHinted}
 use Rattle.ih_bound.specs.Judging.{HasGap, judged, no_infeasibility}
 use Rattle.ih_bound.specs.Texts.{bound_text}
 use Rattle.ih_bound.specs.declared.judging.Judged.{Judged}
@@ -19,14 +20,15 @@ use Rattle.ih_commands.specs.declared.command.bound.Bound.{Bound}
 use Rattle.ih_commands.specs.declared.command.bound.TheConstants.{DEFAULT_BOUND_ROUNDS, MAX_BOUND_ROUNDS}
 use Rattle.ih_commands.specs.declared.command.common.TheConstants.{DEFAULT_WORKERS}
 
--- bound INSTANCE [SOLUTION] [--rounds N] [--workers N]
+-- bound INSTANCE [SOLUTION] [--rounds N] [--workers N] [--prices]
 unfoldable pub bound_app : App
-bound_app = with_rule (with_rule (with_rule (with_rule
+bound_app = with_rule (with_rule (with_rule (with_rule (with_rule
     (new_app (codes "bound"))
     (named (codes "INSTANCE")))
     (optional_name (codes "SOLUTION")))
     (optional_between (codes "rounds") 1 MAX_BOUND_ROUNDS))
-    (optional_between (codes "workers") 1 MAX_WORKERS)
+    (optional_between (codes "workers") 1 MAX_WORKERS))
+    (flag (codes "prices"))
 
 -- what a call of bound asks for; a file's name is its bytes
 pub record BoundCall : Type 0 where
@@ -35,6 +37,8 @@ pub record BoundCall : Type 0 where
   -- how often prices are tried at most
   pub rounds : ℕ
   pub workers : ℕ
+  -- it is told where more beds, or more time, would help
+  pub prices : Bool
 
 -- the call that the values of bound stand for
 abbrev pub bound_call : Bound → BoundCall
@@ -43,6 +47,7 @@ bound_call b = record {
   solution = option_map (λ t. t.now) b.solution;
   rounds = b.rounds;
   workers = b.workers;
+  prices = b.prices;
 }
 
 -- its workers are no more than there may be
@@ -66,6 +71,7 @@ bound_in rows = record {
   solution = first_of (codes "SOLUTION") rows;
   rounds = unwrap_or (number_if_given (codes "rounds") rows) DEFAULT_BOUND_ROUNDS;
   workers = unwrap_or (number_if_given (codes "workers") rows) DEFAULT_WORKERS;
+  prices = flag_at (codes "prices") rows;
 }
 
 -- each call that `clap` finds no fault in is lawful: it writes no file
@@ -83,6 +89,14 @@ abbrev pub judged_status : Bool → Status
 judged_status true = Done
 judged_status false = NotFeasible
 
+-- what is told of the prices: nothing where the call doesn't ask for it
+abbrev pub hints_told : Bool → Draft → Outcome → List ℕ → Type 0
+hints_told true I outcome text = IsHinted I outcome text
+hints_told false I outcome text = text ≡ []
+
+abbrev pub IsToldOf : BoundCall → Draft → Outcome → List ℕ → Type 0
+IsToldOf c = hints_told c.prices
+
 -- What a call of bound comes to: what is said holds of all feasible timetables of the instance, and was found in as many
 -- rounds as the call asks for, or fewer. Nothing is written.
 pub record IsBounded (c : BoundCall) (g : Given) (o : OutcomeState) : Type 0 where
@@ -91,5 +105,7 @@ pub record IsBounded (c : BoundCall) (g : Given) (o : OutcomeState) : Type 0 whe
   pub parts : AddUp outcome
   pub rounds : IsFoundIn c.rounds outcome
   pub gap : HasGap g.instance g.plan outcome
+  pub hints : List ℕ
+  pub told : IsToldOf c g.instance outcome hints
   pub said : o ≡ says (judged_status (no_infeasibility (judged_of c.solution g.instance g.plan) outcome))
-      (bound_text (judged_of c.solution g.instance g.plan) outcome)
+      (bound_text (judged_of c.solution g.instance g.plan) outcome ++ hints)

@@ -3,6 +3,8 @@
 ghost use Rattle.std.specs.Prelude.{◌≡◌, IfOk, map, string_bytes};
 ghost use Rattle.clap.specs.Words.{found_of, rows_of};
 ghost use Rattle.ih_arguments.specs.Matches.{call_by};
+ghost use Rattle.ih_bound.specs.Hints.{HasPrices};
+ghost use Rattle.ih_commands.specs.Calls.Bound.{IsToldOf};
 ghost use Rattle.ih_plan.specs.Timetable.{IsPlanOf};
 ghost use Rattle.ih_frame.specs.Outcomes.{IsOwnStatus};
 ghost use Rattle.ih_commands.specs.Calls.Bound.{HasBound, HasFewWorkers, IsBounded, bound_app, bound_call, bound_in};
@@ -14,11 +16,12 @@ use clap::ArgMatches;
 use ih_arguments::argument;
 use ih_arguments::arguments::{Argument, Description, Kind};
 use ih_arguments::explaining::{NoCall, explained};
-use ih_arguments::matches::{matched, number_if_given, optional_text_of, text_of};
-use ih_bound::{Judged, bound, bound_text, judge, no_infeasibility};
+use ih_arguments::matches::{flag_of, matched, number_if_given, optional_text_of, text_of};
+use ih_bound::{Judged, Priced, bound_text, bound_with_prices, hints_text, judge, no_infeasibility};
 use ih_endings::Status;
 use ih_frame::Outcome;
 use ih_inputs::{InputNames, Inputs};
+use ih_tables::Instance;
 use std::alloc::{AllocError, Global};
 use std::sync::Wait;
 use std::thread::Threads;
@@ -39,9 +42,11 @@ pub struct Bound<'a> {
     pub rounds: u32,
     /// How many workers look at patients side by side.
     pub workers: u32,
+    /// Whether it is told where more beds, or more time, would help.
+    pub prices: bool,
 }
 
-/// `bound INSTANCE [SOLUTION] [--rounds N] [--workers N]`.
+/// `bound INSTANCE [SOLUTION] [--rounds N] [--workers N] [--prices]`.
 pub const BOUND: Description<'static, 'static> = Description {
     name: "bound",
     about: "Says what no feasible timetable costs less than",
@@ -59,6 +64,11 @@ pub const BOUND: Description<'static, 'static> = Description {
             "How often prices are tried at most [default: 1500]"
         ),
         WORKERS,
+        argument!(
+            "prices",
+            Kind::Flag,
+            "Say where one more bed, or more time of a surgeon or a theatre, would help"
+        ),
     ],
 };
 
@@ -73,6 +83,7 @@ fn bound_in<'a>(matches: &ArgMatches<'a>) -> Bound<'a>
         solution: optional_text_of(matches, "SOLUTION"),
         rounds: number_if_given(matches, "rounds").unwrap_or(DEFAULT_BOUND_ROUNDS),
         workers: number_if_given(matches, "workers").unwrap_or(DEFAULT_WORKERS),
+        prices: flag_of(matches, "prices"),
     }
 }
 
@@ -96,6 +107,18 @@ fn judged_of(call: &Bound<'_>, inputs: &Inputs) -> Option<Judged>
     match call.solution {
         Some(_) => Some(judge(&*inputs.inst, &inputs.plan)),
         None => None,
+    }
+}
+
+// What is told of the prices, if the call asks for it.
+fn hints_of(alloc: Global, call: &Bound<'_>, inst: &Instance, found: &Priced) -> Result<Vec<u8>, AllocError>
+    requires { HasPrices inst.now.draft found.now found.now.outcome }
+    ensures { IfOk result (λ v. IsToldOf (bound_call call.now) inst.now.draft found.now.outcome v.items) }
+{
+    if call.prices {
+        hints_text(alloc, inst, found)
+    } else {
+        Ok(Vec::new(alloc))
     }
 }
 
@@ -136,9 +159,11 @@ impl<'b> ih_frame::Command for Bound<'b> {
         inputs: Inputs,
     ) -> Result<Outcome<'a>, AllocError> {
         let judged = judged_of(self, &inputs);
-        let found = bound(rt, alloc, &*inputs.inst, self.rounds, self.workers)?;
-        let text = bound_text(alloc, &found, &judged)?;
-        let status = judged_status(no_infeasibility(&judged, &found));
+        let found = bound_with_prices(rt, alloc, &*inputs.inst, self.rounds, self.workers)?;
+        let mut text = bound_text(alloc, &found.outcome, &judged)?;
+        let hints = hints_of(alloc, self, &*inputs.inst, &found)?;
+        text.extend_from_slice(hints.as_slice())?;
+        let status = judged_status(no_infeasibility(&judged, &found.outcome));
         Ok(Outcome::said(alloc, status, text))
     }
 }

@@ -1,13 +1,9 @@
 use Rattle.std.proofs.Common.{◌≤◌, All}
-use Rattle.ih_plan.specs.Timetable.{Timetable}
-use Rattle.ih_bound.specs.Bounds.{IsFeasible}
-use Rattle.ih_bound.specs.Tariffs.{worth}
 use Rattle.ih_bound.specs.Dealing.{HasFloors}
 use Rattle.ih_bound.proofs.ascending.ascend_by.Given as goal
 
 abbrev pub invariant-loop-round : goal.invariant-loop-round
 invariant-loop-round g l = record {
   floors : All (HasFloors l.inst.draft l.rates) l.workers;
-  best : (P : Timetable) → IsFeasible l.inst.draft P → l.best ≤ worth l.inst.draft l.rates P;
   rounds : l.rounds ≤ l.effort.rounds;
 }

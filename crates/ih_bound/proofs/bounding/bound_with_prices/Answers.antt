@@ -1,6 +1,6 @@
 use Rattle.std.proofs.Common.{◌*◌, arith}
 use Rattle.ih_bound.proofs.CostWorth.{worth-cost}
-use Rattle.ih_bound.proofs.bounding.bound.Goals as goal
+use Rattle.ih_bound.proofs.bounding.bound_with_prices.Goals as goal
 
 pub returns-clause-holds : goal.returns-clause-holds
 returns-clause-holds g c = λ P feasible.
