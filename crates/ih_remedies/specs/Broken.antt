@@ -1,6 +1,6 @@
 -- What is said of bytes that are no JSON.
 use Rattle.std.specs.Prelude.{◌≡◌, ◌≤◌, ℕ, ◌+◌, ◌==◌, ◌&&◌, ◌||◌, Bool, true, false, List, [], ◌∷◌, ◌++◌, codes, decimal, drop, fold, length, take, slice_get, Option, Some, None, if◌then◌else◌}
-use Rattle.std.specs.Char.{is_ascii_digit}
+use Rattle.std.specs.Char.{is_ascii_alphabetic, is_ascii_digit}
 use Rattle.std.specs.Fmt.{is_char_start}
 use Rattle.std.specs.List.{list_any, range_with_len, starts_with}
 use Rattle.std.specs.Option.{option_map_or}
@@ -77,6 +77,10 @@ has_comma_too_many before here = closes here && option_map_or (λ b. b == 44) be
 abbrev pub lacks_comma : Option ℕ → ℕ → Bool
 lacks_comma before here = begins_value here && option_map_or ends_value before false
 
+-- true, false or null begins with this letter, small or not
+abbrev pub is_of_word : ℕ → Bool
+is_of_word b = (b == 116) || (b == 102) || (b == 110) || (b == 84) || (b == 70) || (b == 78)
+
 -- what is wrong at a byte, by the last one before it that is no space
 unfoldable pub reason : Option ℕ → Option ℕ → List ℕ
 reason before None = codes "the file ends too soon"
@@ -85,9 +89,10 @@ reason before (Some here) =
     else if closes here then codes "this bracket doesn't belong here"
     else if lacks_comma before here then codes "a comma or a colon is missing before this"
     else if here == 34 then codes "this text has no end in its line, or a backslash too many"
-    else if here == 39 then codes "texts stand between double quotes"
     else if (here == 47) || (here == 35) then codes "JSON has no comments"
-    else if (here == 84) || (here == 70) || (here == 78) then codes "true, false and null have small letters"
+    else if is_ascii_digit here || (here == 45) then codes "this number, or what stands right behind it, isn't JSON"
+    else if is_of_word here then codes "true, false and null are written in full, with small letters"
+    else if (here == 39) || is_ascii_alphabetic here then codes "texts stand between double quotes"
     else codes "what begins here isn't JSON"
 
 -- ---- curly quotes

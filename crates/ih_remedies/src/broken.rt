@@ -5,7 +5,7 @@ ghost use Rattle.std.specs.Fmt.{is_char_start};
 ghost use Rattle.std.specs.Str.Lossy.{utf8_valid_len};
 ghost use Rattle.ih_remedies.specs.Broken.{begins_value, closes, column_after, curly_text, ends_value, has_curly, is_blank};
 ghost use Rattle.ih_remedies.specs.Broken.{is_curly_at, is_utf16, IsSaidOfBytes, lacks_comma, last_solid, line_after, place_text};
-ghost use Rattle.ih_remedies.specs.Broken.{has_comma_too_many, reason, saved_text, stopped_text, unread_text};
+ghost use Rattle.ih_remedies.specs.Broken.{has_comma_too_many, is_of_word, reason, saved_text, stopped_text, unread_text};
 
 use crate::values::Text;
 use std::alloc::Global;
@@ -142,6 +142,13 @@ fn lacks_comma(before: Option<u8>, here: u8) -> bool
     }
 }
 
+// Whether true, false or null begins with this letter, small or not.
+fn is_of_word(b: u8) -> bool
+    ensures { result ≡ is_of_word b }
+{
+    b == b't' || b == b'f' || b == b'n' || b == b'T' || b == b'F' || b == b'N'
+}
+
 // What is wrong at a byte, by the last one before it that is no space.
 #[tactic(auto, unfolding(crate::specs::Broken::reason))]
 fn reason(before: Option<u8>, here: Option<u8>) -> &'static str
@@ -158,12 +165,14 @@ fn reason(before: Option<u8>, here: Option<u8>) -> &'static str
         "a comma or a colon is missing before this"
     } else if here == b'"' {
         "this text has no end in its line, or a backslash too many"
-    } else if here == b'\'' {
-        "texts stand between double quotes"
     } else if here == b'/' || here == b'#' {
         "JSON has no comments"
-    } else if here == b'T' || here == b'F' || here == b'N' {
-        "true, false and null have small letters"
+    } else if here.is_ascii_digit() || here == b'-' {
+        "this number, or what stands right behind it, isn't JSON"
+    } else if is_of_word(here) {
+        "true, false and null are written in full, with small letters"
+    } else if here == b'\'' || here.is_ascii_alphabetic() {
+        "texts stand between double quotes"
     } else {
         "what begins here isn't JSON"
     }
