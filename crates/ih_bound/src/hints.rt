@@ -61,7 +61,13 @@ fn relief_of_beds(inst: &Instance, rates: &Rates, prices: &Prices, day: u32) -> 
     prices.bed_on(day)
 }
 
-fn relief_of_surgeon(inst: &Instance, rates: &Rates, prices: &Prices, surgeon: SurgeonNo, day: u32) -> u64
+fn relief_of_surgeon(
+    inst: &Instance,
+    rates: &Rates,
+    prices: &Prices,
+    surgeon: SurgeonNo,
+    day: u32,
+) -> u64
     requires known { surgeon.0 < surgeon_count inst.now.draft }
     requires day { day < inst.now.draft.days }
     ensures { result ≡ relief inst.now.draft rates.now (tariff_of inst.now.draft rates.now prices.now)
@@ -70,7 +76,13 @@ fn relief_of_surgeon(inst: &Instance, rates: &Rates, prices: &Prices, surgeon: S
     60 * surgeon_price(inst, rates, prices, surgeon.0, day)
 }
 
-fn relief_of_theatre(inst: &Instance, rates: &Rates, prices: &Prices, theatre: TheatreNo, day: u32) -> u64
+fn relief_of_theatre(
+    inst: &Instance,
+    rates: &Rates,
+    prices: &Prices,
+    theatre: TheatreNo,
+    day: u32,
+) -> u64
     requires known { theatre.0 < theatre_count inst.now.draft }
     requires day { day < inst.now.draft.days }
     ensures { result ≡ relief inst.now.draft rates.now (tariff_of inst.now.draft rates.now prices.now)
@@ -102,11 +114,22 @@ fn points_at(inst: &Instance, rates: &Rates, prices: &Prices, place: u32) -> u64
     ensures { result ≡ points_at inst.now.draft rates.now (tariff_of inst.now.draft rates.now prices.now) place }
 {
     let days = inst.days();
-    relief(inst, rates, prices, thing_in(inst, place / days), place % days) / PARTS
+    relief(
+        inst,
+        rates,
+        prices,
+        thing_in(inst, place / days),
+        place % days,
+    ) / PARTS
 }
 
 // The points of all things on all days.
-fn all_points(alloc: Global, inst: &Instance, rates: &Rates, prices: &Prices) -> Result<Vec<u64>, AllocError>
+fn all_points(
+    alloc: Global,
+    inst: &Instance,
+    rates: &Rates,
+    prices: &Prices,
+) -> Result<Vec<u64>, AllocError>
     ensures { IfOk result (λ v. v.items ≡ all_points inst.now.draft rates.now
         (tariff_of inst.now.draft rates.now prices.now)) }
 {
@@ -153,13 +176,21 @@ fn put_id(out: &mut Vec<u8>, text: &str, id: &str) -> Result<(), AllocError>
 fn put_surgeon(out: &mut Vec<u8>, inst: &Instance, surgeon: SurgeonNo) -> Result<(), AllocError>
     ensures { OnOk result (out.new.items ≡ out.old.items ++ more_text inst.now.draft (OfSurgeon surgeon)) }
 {
-    put_id(out, "60 more minutes of surgeon ", surgeon_id(inst, surgeon))
+    put_id(
+        out,
+        "60 more minutes of surgeon ",
+        surgeon_id(inst, surgeon),
+    )
 }
 
 fn put_theatre(out: &mut Vec<u8>, inst: &Instance, theatre: TheatreNo) -> Result<(), AllocError>
     ensures { OnOk result (out.new.items ≡ out.old.items ++ more_text inst.now.draft (OfTheatre theatre)) }
 {
-    put_id(out, "60 more minutes in theatre ", theatre_id(inst, theatre))
+    put_id(
+        out,
+        "60 more minutes in theatre ",
+        theatre_id(inst, theatre),
+    )
 }
 
 // Appends what there would be more of.

@@ -17,7 +17,9 @@ use ih_arguments::argument;
 use ih_arguments::arguments::{Argument, Description, Kind};
 use ih_arguments::explaining::{NoCall, explained};
 use ih_arguments::matches::{flag_of, matched, number_if_given, optional_text_of, text_of};
-use ih_bound::{Judged, Priced, bound_text, bound_with_prices, hints_text, judge, no_infeasibility};
+use ih_bound::{
+    Judged, Priced, bound_text, bound_with_prices, hints_text, judge, no_infeasibility,
+};
 use ih_endings::Status;
 use ih_frame::Outcome;
 use ih_inputs::{InputNames, Inputs};
@@ -111,7 +113,12 @@ fn judged_of(call: &Bound<'_>, inputs: &Inputs) -> Option<Judged>
 }
 
 // What is told of the prices, if the call asks for it.
-fn hints_of(alloc: Global, call: &Bound<'_>, inst: &Instance, found: &Priced) -> Result<Vec<u8>, AllocError>
+fn hints_of(
+    alloc: Global,
+    call: &Bound<'_>,
+    inst: &Instance,
+    found: &Priced,
+) -> Result<Vec<u8>, AllocError>
     requires { HasPrices inst.now.draft found.now found.now.outcome }
     ensures { IfOk result (λ v. IsToldOf (bound_call call.now) inst.now.draft found.now.outcome v.items) }
 {

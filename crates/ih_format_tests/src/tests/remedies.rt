@@ -4,7 +4,8 @@ use crate::tests::rows::none_is_wrong;
 use ih_fixtures::{TWO_PATIENTS, cut, put_changed};
 use ih_instance::{InstanceError, read_instance};
 use ih_remedies::remedy;
-use ih_tables::{Fault, Key, Place, Refusal};
+use ih_solution::{SolutionError, read_solution};
+use ih_tables::{Instance, Refusal};
 use std::alloc::Global;
 
 // Whether that line is said of a file that is refused so.
@@ -33,12 +34,14 @@ fn is_said(alloc: Global, old: &str, new: &str, wanted: &str) -> bool {
         && is_said_of(alloc, file.as_bytes(), wanted)
 }
 
-// The first row that isn't so: what stands in the instance, what is put in its place, and what is then said.
-fn first_wrong<'t>(alloc: Global, table: &'t str) -> &'t str {
+// The first row that isn't so: what stands in a file, what is put in its place, and what is then said.
+fn first_wrong<'t, F: Fn(&str, &str, &str) -> bool>(table: &'t str, is_so: &F) -> &'t str
+    requires { F.IsAlwaysCallable is_so.now }
+{
     for row in table.trim().split('\n') {
         let (old, rest) = cut(row, " | ");
         let (new, wanted) = cut(rest, " | ");
-        if !is_said(alloc, old, new, wanted) {
+        if !is_so(old, new, wanted) {
             return row;
         }
     }
@@ -57,6 +60,18 @@ const FAULTS: &str = r#"
 "id":"p1" | "id":"p0" | patient "p0": "id" is given twice: "p0"
 "availability":[60,60]},{"id":"t1" | "availability":[60]},{"id":"t1" | operating theater "t0": "availability" has 1 item, and is to have one for each day
 "nurse_eccessive_workload":1, | "nurse_excessive_workload":1,"nurse_eccessive_workload":1, | the file has both "nurse_eccessive_workload" and "nurse_excessive_workload": keep one of them
+"rooms":[{"id":"r0","capacity":2},{"id":"r1","capacity":1}], |  | the file has no "rooms"
+"days":2, | "days":"2", | the file: "days" is "2", and is to be a whole number from 1 to 56
+"age_group":"adult" | "age_group":"Adult" | occupant "a0": "Adult" is none of this file's age groups: there are "child", "adult", "old"
+[2,2,2,2,2,2] | [2,2,2,2,2] | patient "p0": "workload_produced" has 5 items, and is to have three for each day of the stay that is within the horizon
+"mandatory":true | "mandatory":"yes" | patient "p0": "mandatory" is "yes", and is to be true or false
+"r1","capacity":1 | "r1","capacity":-1 | room "r1": "capacity" is -1, and is to be a whole number from 0 to 1000
+"length_of_stay":1 | "length_of_stay":0 | occupant "a0": "length_of_stay" is 0, and is to be a whole number from 1 to 100
+{"day":1,"shift":"late","max_load":10} | {"day":0,"shift":"late","max_load":10} | nurse "n1": number 5 of "working_shifts" is of the same day and shift as an earlier one
+{"day":1,"shift":"night","max_load":10} | {"day":2,"shift":"night","max_load":10} | nurse "n1", number 6 of "working_shifts": "day" is 2, and is to be a whole number from 0 to the last day
+["early","late","night"] | ["early","late"] | the file: "shift_types" has 2 items, and is to have 3
+"gender":"B" | "gender":2 | patient "p1": "gender" is 2, and is to be a text of 1 to 100 bytes
+"id":"p1" | "id":"" | patient "": "id" is "", and is to be a text of 1 to 100 bytes
 "#;
 
 const BROKEN: &str = r#"
@@ -64,12 +79,20 @@ const BROKEN: &str = r#"
 ,"unscheduled_optional":100}, | ,"unscheduled_optional":100,}, | line 3, column 95: there is a comma too many before this bracket
 "days" | “days” | line 1, column 2: what begins here isn't JSON; the file has curly quotes: use straight ones
 {"days":2 | {'days':2 | line 1, column 2: texts stand between double quotes
+"days":2, | days:2, | line 1, column 2: texts stand between double quotes
+"days":2, | "days":2 | line 1, column 9: this number, or what stands right behind it, isn't JSON
+"days":2, | "days":2, // two days | line 1, column 12: JSON has no comments
+"mandatory":true | "mandatory":True | line 6, column 36: true, false and null are written in full, with small letters
+"night","max_load":10}]}]} | "night","max_load":10}]}] | line 20, column 43: the file ends too soon
+"night","max_load":10}]}]} | "night","max_load":10}]}]}} | line 20, column 44: this bracket doesn't belong here
 "#;
 
 #[test]
 fn each_fault_has_its_remedy(rt: HostRuntime) {
-    none_is_wrong(&rt, first_wrong(rt.alloc(), FAULTS));
-    none_is_wrong(&rt, first_wrong(rt.alloc(), BROKEN));
+    let alloc = rt.alloc();
+    let is_so = |old: &str, new: &str, wanted: &str| is_said(alloc, old, new, wanted);
+    none_is_wrong(&rt, first_wrong(FAULTS, &is_so));
+    none_is_wrong(&rt, first_wrong(BROKEN, &is_so));
 }
 
 // A file that was saved in another way.
@@ -100,40 +123,50 @@ fn files_of_other_encodings_are_named(rt: HostRuntime) {
 }
 
 const SOLUTION: &str =
-    r#"{"patients":[{"id":"p0","admission_day":0,"room":"r7","operating_theater":"t0"}],
-"nurses":[{"id":"n0","assignments":[{"day":0,"shift":"early","rooms":["r0","r0"]}]}]}"#;
+    r#"{"patients":[{"id":"p0","admission_day":0,"room":"r0","operating_theater":"t0"},{"id":"p1","admission_day":"none"}],
+"nurses":[{"id":"n0","assignments":[{"day":0,"shift":"early","rooms":["r0"]}]},
+{"id":"n1","assignments":[{"day":0,"shift":"late","rooms":["r0"]}]}]}"#;
 
 // A solution refers to the instance, which is another file.
+const OF_SOLUTIONS: &str = r#"
+"id":"p1" | "id":"P1" | patient "P1": "P1" is none of the instance's patients
+"id":"p1" | "id":"p0" | patient "p0": "id" is given twice: "p0"
+"none" | "tomorrow" | patient "p1": "admission_day" is "tomorrow", and is to be a whole number from 0 to the last day, or "none"
+"admission_day":0 | "admission_day":2 | patient "p0": "admission_day" is 2, and is to be a whole number from 0 to the last day, or "none"
+"room":"r0" | "room":"r7" | patient "p0": "r7" is none of the instance's rooms
+"operating_theater":"t0" | "operating_theater":"T0" | patient "p0": "T0" is none of the instance's operating theaters
+,"operating_theater":"t0" |  | patient "p0" has no "operating_theater"
+"id":"n0" | "id":"n7" | nurse "n7": "n7" is none of the instance's nurses
+"shift":"late" | "shift":"early" | nurse "n1", number 1 of "assignments": "r0" has a nurse in this shift already
+"#;
+
+// Whether that is said of the solution after a change.
+fn is_said_of_solution(alloc: Global, inst: &Instance, old: &str, new: &str, wanted: &str) -> bool {
+    let mut file = String::new(alloc);
+    if !matches!(put_changed(&mut file, SOLUTION, old, new), Ok(true)) {
+        return false;
+    }
+    match read_solution(alloc, inst, file.as_bytes()) {
+        Err(SolutionError::Refused(refusal)) => {
+            is_its_remedy(alloc, file.as_bytes(), refusal, wanted)
+        }
+        _ => false,
+    }
+}
+
+fn first_wrong_solution<'t>(alloc: Global, table: &'t str) -> &'t str {
+    match read_instance(alloc, TWO_PATIENTS.as_bytes()) {
+        Ok(inst) => first_wrong(
+            table,
+            &|old: &str, new: &str, wanted: &str| {
+                is_said_of_solution(alloc, &inst, old, new, wanted)
+            },
+        ),
+        Err(_) => "the instance is refused",
+    }
+}
+
 #[test]
 fn solutions_have_remedies(rt: HostRuntime) {
-    let alloc = rt.alloc();
-    let file = SOLUTION.as_bytes();
-    let room = Refusal {
-        fault: Fault::Unknown,
-        at: Place::whole().key(Key::Patients).item(0).key(Key::Room),
-    };
-    assert!(rt;
-        is_its_remedy(
-            alloc,
-            file,
-            room,
-            r#"patient "p0": "r7" is none of the instance's rooms"#
-        )
-    );
-    let assignments = Place::whole()
-        .key(Key::Nurses)
-        .item(0)
-        .key(Key::Assignments);
-    let nurse = Refusal {
-        fault: Fault::TwoNurses,
-        at: assignments.item(0).key(Key::Rooms).item(1),
-    };
-    assert!(rt;
-        is_its_remedy(
-            alloc,
-            file,
-            nurse,
-            r#"nurse "n0", number 1 of "assignments": "r0" has a nurse in this shift already"#
-        )
-    );
+    none_is_wrong(&rt, first_wrong_solution(rt.alloc(), OF_SOLUTIONS));
 }
