@@ -165,10 +165,13 @@ carry i s n q --days x
 > store x
 > 3 carry x s n q
 x: instance refused: NotJson at $
+  line 1, column 1: the file ends too soon
 > 4 carry i x n q
 x: solution refused: NotJson at $
+  line 1, column 1: the file ends too soon
 > 3 carry i s x q
 x: new instance refused: NotJson at $
+  line 1, column 1: the file ends too soon
 > no q
 > fail-write 1 9
 > 6 carry i s n q

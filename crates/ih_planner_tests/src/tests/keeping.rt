@@ -57,6 +57,7 @@ const REFUSED: &str = "
 an older plan
 > 4 improve i o --workers 1 --attempts 9 --start s --keep 0
 o: older solution refused: NotJson at $
+  line 1, column 1: texts stand between double quotes
 > is o
 an older plan
 > anew
