@@ -1,6 +1,6 @@
 -- What is said behind a text that was put out before.
-use Rattle.std.proofs.Common.{zero, suc, ◌≡◌, ◌∙◌, ◌≤◌, ◌+◌, ℕ, refl, ap, sym, arith, inl, inr, List, [], ◌∷◌, ◌++◌, take, append_assoc, length, Option, Some, None}
-use Rattle.ih_shelf.specs.Outside.{IfTold, IsAppended, MayBeAppended, Rose}
+use Rattle.std.proofs.Common.{zero, suc, ◌≡◌, ◌∙◌, ◌≤◌, ℕ, refl, ap, sym, inl, inr, List, [], ◌∷◌, ◌++◌, take, append_assoc, Option, Some, None}
+use Rattle.ih_shelf.specs.Outside.{IfTold, IsAppended, MayBeAppended}
 use Rattle.ih_endings.specs.declared.status.Status.{Status}
 use Rattle.ih_endings.specs.declared.status.Status.TheVariants.{ReadFault, WriteFault, OutOfMemory}
 use Rattle.ih_endings.specs.Answers.{HasFileCause}

@@ -81,7 +81,6 @@ fn refused(
 }
 
 // Says why the files can't be had.
-#[tactic(auto, using(crate::proofs::Stopping::refused_answer))]
 fn unread_inputs(alloc: Global, names: &InputNames<'_>, error: InputError) -> Answer
     ensures { IsUnreadInputs (files_of names.now) error result }
 {
