@@ -81,9 +81,18 @@ lacks_comma before here = begins_value here && option_map_or ends_value before f
 abbrev pub is_of_word : ℕ → Bool
 is_of_word b = (b == 116) || (b == 102) || (b == 110) || (b == 84) || (b == 70) || (b == 78)
 
+-- a text ends there
+abbrev pub follows_text : Option ℕ → Bool
+follows_text before = option_map_or (λ b. b == 34) before false
+
+-- a list or an object ends there
+abbrev pub follows_bracket : Option ℕ → Bool
+follows_bracket before = option_map_or closes before false
+
 -- what is wrong at a byte, by the last one before it that is no space
 unfoldable pub reason : Option ℕ → Option ℕ → List ℕ
-reason before None = codes "the file ends too soon"
+reason None None = codes "the file is empty"
+reason (Some b) None = codes "the file ends too soon: a bracket or a quote before isn't closed"
 reason before (Some here) =
     if has_comma_too_many before here then codes "there is a comma too many before this bracket"
     else if closes here then codes "this bracket doesn't belong here"
@@ -92,7 +101,12 @@ reason before (Some here) =
     else if (here == 47) || (here == 35) then codes "JSON has no comments"
     else if is_ascii_digit here || (here == 45) then codes "this number, or what stands right behind it, isn't JSON"
     else if is_of_word here then codes "true, false and null are written in full, with small letters"
-    else if (here == 39) || is_ascii_alphabetic here then codes "texts stand between double quotes"
+    else if follows_text before
+    then codes "a text ends right before this: perhaps it lacks its first or last double quote"
+    else if follows_bracket before
+    then codes "this can't follow a bracket: delete it, or write what is missing between them"
+    else if (here == 39) || is_ascii_alphabetic here
+    then codes "texts stand between double quotes"
     else codes "what begins here isn't JSON"
 
 -- ---- curly quotes

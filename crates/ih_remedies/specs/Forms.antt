@@ -65,9 +65,9 @@ form_at p = form_by p.last (key_at p) (is_none p.first)
 unfoldable pub form_text : Form → List ℕ
 form_text (forms.Number least most) =
     codes "a whole number from " ++ (decimal least ++ (codes " to " ++ decimal most))
-form_text forms.Day = codes "a whole number from 0 to the last day"
-form_text forms.DayOrNone = codes "a whole number from 0 to the last day, or \"none\""
-form_text forms.Text = codes "a text of 1 to 100 bytes"
+form_text forms.Day = codes "a whole number from 0, below \"days\""
+form_text forms.DayOrNone = codes "a whole number from 0, below \"days\", or the text \"none\""
+form_text forms.Text = codes "a text between double quotes, of 1 to 100 bytes"
 form_text forms.Truth = codes "true or false"
 form_text forms.Object = codes "an object"
 form_text forms.List = codes "a list"
@@ -83,10 +83,10 @@ count_of keys.Nurses = codes "512 at most"
 count_of keys.Occupants = codes "512 at most"
 count_of keys.Patients = codes "2048 at most"
 count_of keys.IncompatibleRoomIds = codes "1024 at most"
-count_of keys.MaxSurgeryTime = codes "one for each day"
-count_of keys.Availability = codes "one for each day"
-count_of keys.WorkloadProduced = codes "three for each day of the stay that is within the horizon"
-count_of keys.SkillLevelRequired = codes "three for each day of the stay that is within the horizon"
+count_of keys.MaxSurgeryTime = codes "at least one for each day"
+count_of keys.Availability = codes "at least one for each day"
+count_of keys.WorkloadProduced = codes "at least three for each day of the stay, but for days from \"days\" on"
+count_of keys.SkillLevelRequired = codes "at least three for each day of the stay, but for days from \"days\" on"
 count_of _ = codes "another number of them"
 
 abbrev pub count_text : Option Key → List ℕ

@@ -80,13 +80,13 @@ list_of None first = None
 list_of (Some k) first = list_by k first
 
 unfoldable pub group_text : Option Key → List ℕ → Data → List ℕ
-group_text None name d = codes "the instance's " ++ name
+group_text None name d = codes "the ward's " ++ name
 group_text (Some k) name d = codes "this file's " ++ (name ++ choices_text (items_in (under_key k d)))
 
 -- ---- the sentences
 
-unfoldable pub missing_text : List ℕ → List ℕ → List ℕ
-missing_text whose key = whose ++ (codes " has no " ++ key)
+unfoldable pub missing_text : List ℕ → List ℕ → List ℕ → List ℕ
+missing_text whose key form = whose ++ (codes " has no " ++ (key ++ (codes ", which is to be " ++ form)))
 
 unfoldable pub wanted_text : List ℕ → List ℕ → List ℕ → List ℕ → List ℕ
 wanted_text whose what value form =
@@ -100,7 +100,7 @@ length_text whose what count wanted =
     whose ++ (codes ": " ++ (what ++ (codes " has " ++ (items_text count ++ (codes ", and is to have " ++ wanted)))))
 
 unfoldable pub twice_text : List ℕ → List ℕ → List ℕ → List ℕ
-twice_text whose what value = whose ++ (codes ": " ++ (what ++ (codes " is given twice: " ++ value)))
+twice_text whose what value = whose ++ (codes ": an earlier one has the same " ++ (what ++ (codes ": " ++ value)))
 
 unfoldable pub same_shift_text : List ℕ → List ℕ → List ℕ
 same_shift_text whose what = whose ++ (codes ": " ++ (what ++ codes " is of the same day and shift as an earlier one"))
@@ -129,7 +129,7 @@ duplicate_text (Some k) whose what value = duplicate_of k whose what value
 -- what is said of a fault at a place. This file is JSON
 unfoldable pub sentence : Fault → Place → Data → List ℕ
 sentence faults.NotJson p d = []
-sentence faults.Missing p d = missing_text (owner p d) (key_text (key_at p))
+sentence faults.Missing p d = missing_text (owner p d) (key_text (key_at p)) (form_text (form_at p))
 sentence faults.Kind p d = wanted_text (owner p d) (thing p) (value_text (found p d)) (form_text (form_at p))
 sentence faults.Range p d = wanted_text (owner p d) (thing p) (value_text (found p d)) (form_text (form_at p))
 sentence faults.Length p d =

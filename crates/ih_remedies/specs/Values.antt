@@ -40,7 +40,7 @@ unfoldable pub shown : Data → List ℕ
 shown d =
     if is_some (as_array d) then codes "a list"
     else if is_some (as_object d) then codes "an object"
-    else if unwrap_or (option_map is_float (as_number d)) false then codes "a number that isn't whole, or too large"
+    else if unwrap_or (option_map is_float (as_number d)) false then codes "a number with a point or an exponent, or too large"
     else cut_to 60 (compact_text d)
 
 abbrev pub value_text : Option Data → List ℕ

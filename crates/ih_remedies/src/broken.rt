@@ -5,7 +5,7 @@ ghost use Rattle.std.specs.Fmt.{is_char_start};
 ghost use Rattle.std.specs.Str.Lossy.{utf8_valid_len};
 ghost use Rattle.ih_remedies.specs.Broken.{begins_value, closes, column_after, curly_text, ends_value, has_curly, is_blank};
 ghost use Rattle.ih_remedies.specs.Broken.{is_curly_at, is_utf16, IsSaidOfBytes, lacks_comma, last_solid, line_after, place_text};
-ghost use Rattle.ih_remedies.specs.Broken.{has_comma_too_many, is_of_word, reason, saved_text, stopped_text, unread_text};
+ghost use Rattle.ih_remedies.specs.Broken.{follows_bracket, follows_text, has_comma_too_many, is_of_word, reason, saved_text, stopped_text, unread_text};
 
 use crate::values::Text;
 use std::alloc::Global;
@@ -149,13 +149,32 @@ fn is_of_word(b: u8) -> bool
     b == b't' || b == b'f' || b == b'n' || b == b'T' || b == b'F' || b == b'N'
 }
 
+fn follows_text(before: Option<u8>) -> bool
+    ensures { result ≡ follows_text before }
+{
+    matches!(before, Some(b'"'))
+}
+
+fn follows_bracket(before: Option<u8>) -> bool
+    ensures { result ≡ follows_bracket before }
+{
+    match before {
+        Some(b) => closes(b),
+        None => false,
+    }
+}
+
 // What is wrong at a byte, by the last one before it that is no space.
 #[tactic(auto, unfolding(crate::specs::Broken::reason))]
 fn reason(before: Option<u8>, here: Option<u8>) -> &'static str
     ensures { result.now ≡ reason before here }
 {
     let Some(here) = here else {
-        return "the file ends too soon";
+        return if before.is_none() {
+            "the file is empty"
+        } else {
+            "the file ends too soon: a bracket or a quote before isn't closed"
+        };
     };
     if has_comma_too_many(before, here) {
         "there is a comma too many before this bracket"
@@ -171,6 +190,10 @@ fn reason(before: Option<u8>, here: Option<u8>) -> &'static str
         "this number, or what stands right behind it, isn't JSON"
     } else if is_of_word(here) {
         "true, false and null are written in full, with small letters"
+    } else if follows_text(before) {
+        "a text ends right before this: perhaps it lacks its first or last double quote"
+    } else if follows_bracket(before) {
+        "this can't follow a bracket: delete it, or write what is missing between them"
     } else if here == b'\'' || here.is_ascii_alphabetic() {
         "texts stand between double quotes"
     } else {

@@ -140,7 +140,7 @@ pub fn group_text(alloc: Global, list: Option<Key>, name: &str, file: &Value) ->
     ensures { IfOk result (λ s. string_bytes s ≡ group_text list name.now (view file.now)) }
 {
     match list {
-        None => format!(in alloc; "the instance's {name}"),
+        None => format!(in alloc; "the ward's {name}"),
         Some(key) => {
             let choices = choices_text(alloc, items_in(file.get(key.name())))?;
             format!(in alloc; "this file's {name}{choices}")

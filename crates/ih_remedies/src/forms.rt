@@ -98,9 +98,11 @@ pub fn form_text(alloc: Global, form: Form) -> Text
 {
     match form {
         Form::Number(least, most) => { format!(in alloc; "a whole number from {least} to {most}") }
-        Form::Day => format!(in alloc; "a whole number from 0 to the last day"),
-        Form::DayOrNone => format!(in alloc; "a whole number from 0 to the last day, or \"none\""),
-        Form::Text => format!(in alloc; "a text of 1 to 100 bytes"),
+        Form::Day => format!(in alloc; "a whole number from 0, below \"days\""),
+        Form::DayOrNone => format!(in alloc;
+            "a whole number from 0, below \"days\", or the text \"none\""
+        ),
+        Form::Text => format!(in alloc; "a text between double quotes, of 1 to 100 bytes"),
         Form::Truth => format!(in alloc; "true or false"),
         Form::Object => format!(in alloc; "an object"),
         Form::List => format!(in alloc; "a list"),
@@ -119,9 +121,9 @@ pub fn count_text(key: Option<Key>) -> &'static str
         Some(Key::Nurses | Key::Occupants) => "512 at most",
         Some(Key::Patients) => "2048 at most",
         Some(Key::IncompatibleRoomIds) => "1024 at most",
-        Some(Key::MaxSurgeryTime | Key::Availability) => "one for each day",
+        Some(Key::MaxSurgeryTime | Key::Availability) => "at least one for each day",
         Some(Key::WorkloadProduced | Key::SkillLevelRequired) => {
-            "three for each day of the stay that is within the horizon"
+            "at least three for each day of the stay, but for days from \"days\" on"
         }
         _ => "another number of them",
     }

@@ -14,10 +14,10 @@ use serde_json::Value;
 use std::alloc::Global;
 
 #[tactic(auto, unfolding(crate::specs::Sentences::missing_text))]
-fn missing_text(alloc: Global, whose: &str, key: &str) -> Text
-    ensures { IfOk result (λ s. string_bytes s ≡ missing_text whose.now key.now) }
+fn missing_text(alloc: Global, whose: &str, key: &str, form: &str) -> Text
+    ensures { IfOk result (λ s. string_bytes s ≡ missing_text whose.now key.now form.now) }
 {
-    format!(in alloc; "{whose} has no {key}")
+    format!(in alloc; "{whose} has no {key}, which is to be {form}")
 }
 
 #[tactic(auto, unfolding(crate::specs::Sentences::wanted_text))]
@@ -50,7 +50,7 @@ fn length_text(alloc: Global, whose: &str, what: &str, count: usize, wanted: &st
 fn twice_text(alloc: Global, whose: &str, what: &str, value: &str) -> Text
     ensures { IfOk result (λ s. string_bytes s ≡ twice_text whose.now what.now value.now) }
 {
-    format!(in alloc; "{whose}: {what} is given twice: {value}")
+    format!(in alloc; "{whose}: an earlier one has the same {what}: {value}")
 }
 
 #[tactic(auto, unfolding(crate::specs::Sentences::same_shift_text))]
@@ -113,7 +113,8 @@ pub fn sentence(alloc: Global, fault: Fault, at: Place, file: &Value) -> Text
         Fault::NotJson => Ok(String::new(alloc)),
         Fault::Missing => {
             let name = key_text(alloc, key)?;
-            missing_text(alloc, whose, name.as_str())
+            let form = form_text(alloc, form_at(at))?;
+            missing_text(alloc, whose, name.as_str(), form.as_str())
         }
         Fault::Kind | Fault::Range => {
             let form = form_text(alloc, form_at(at))?;

@@ -63,7 +63,7 @@ pub fn shown(alloc: Global, value: &Value) -> Text
         return String::from_str(alloc, "an object");
     }
     if value.is_f64() {
-        return String::from_str(alloc, "a number that isn't whole, or too large");
+        return String::from_str(alloc, "a number with a point or an exponent, or too large");
     }
     let text = value.to_string(alloc)?;
     let cut = InlineText::<60>::new().and_str(text.as_str(), 60);

@@ -52,26 +52,26 @@ const FAULTS: &str = r#"
 ["r1"] | ["room 4"] | patient "p0": "room 4" is none of this file's rooms: there are "r0", "r1"
 "surgeon_id":"s0" | "surgeon_id":"S0" | patient "p0": "S0" is none of this file's surgeons: there are "s0"
 "shift":"early" | "shift":"Early" | nurse "n0", number 1 of "working_shifts": "Early" is none of this file's shift types: there are "early", "late", "night"
-"surgery_due_day":1, |  | patient "p0" has no "surgery_due_day"
+"surgery_due_day":1, |  | patient "p0" has no "surgery_due_day", which is to be a whole number from 0 to 1000
 "length_of_stay":5 | "length_of_stay":"5" | patient "p0": "length_of_stay" is "5", and is to be a whole number from 1 to 100
 "days":2 | "days":200 | the file: "days" is 200, and is to be a whole number from 1 to 56
-"room_mixed_age":5 | "room_mixed_age":2.5 | "weights": "room_mixed_age" is a number that isn't whole, or too large, and is to be a whole number from 0 to 100000
-"id":"p1" | "id":7 | patient number 2: "id" is 7, and is to be a text of 1 to 100 bytes
-"id":"p1" | "id":"p0" | patient "p0": "id" is given twice: "p0"
-"availability":[60,60]},{"id":"t1" | "availability":[60]},{"id":"t1" | operating theater "t0": "availability" has 1 item, and is to have one for each day
+"room_mixed_age":5 | "room_mixed_age":2.5 | "weights": "room_mixed_age" is a number with a point or an exponent, or too large, and is to be a whole number from 0 to 100000
+"id":"p1" | "id":7 | patient number 2: "id" is 7, and is to be a text between double quotes, of 1 to 100 bytes
+"id":"p1" | "id":"p0" | patient "p0": an earlier one has the same "id": "p0"
+"availability":[60,60]},{"id":"t1" | "availability":[60]},{"id":"t1" | operating theater "t0": "availability" has 1 item, and is to have at least one for each day
 "nurse_eccessive_workload":1, | "nurse_excessive_workload":1,"nurse_eccessive_workload":1, | the file has both "nurse_eccessive_workload" and "nurse_excessive_workload": keep one of them
-"rooms":[{"id":"r0","capacity":2},{"id":"r1","capacity":1}], |  | the file has no "rooms"
+"rooms":[{"id":"r0","capacity":2},{"id":"r1","capacity":1}], |  | the file has no "rooms", which is to be a list
 "days":2, | "days":"2", | the file: "days" is "2", and is to be a whole number from 1 to 56
 "age_group":"adult" | "age_group":"Adult" | occupant "a0": "Adult" is none of this file's age groups: there are "child", "adult", "old"
-[2,2,2,2,2,2] | [2,2,2,2,2] | patient "p0": "workload_produced" has 5 items, and is to have three for each day of the stay that is within the horizon
+[2,2,2,2,2,2] | [2,2,2,2,2] | patient "p0": "workload_produced" has 5 items, and is to have at least three for each day of the stay, but for days from "days" on
 "mandatory":true | "mandatory":"yes" | patient "p0": "mandatory" is "yes", and is to be true or false
 "r1","capacity":1 | "r1","capacity":-1 | room "r1": "capacity" is -1, and is to be a whole number from 0 to 1000
 "length_of_stay":1 | "length_of_stay":0 | occupant "a0": "length_of_stay" is 0, and is to be a whole number from 1 to 100
 {"day":1,"shift":"late","max_load":10} | {"day":0,"shift":"late","max_load":10} | nurse "n1": number 5 of "working_shifts" is of the same day and shift as an earlier one
-{"day":1,"shift":"night","max_load":10} | {"day":2,"shift":"night","max_load":10} | nurse "n1", number 6 of "working_shifts": "day" is 2, and is to be a whole number from 0 to the last day
+{"day":1,"shift":"night","max_load":10} | {"day":2,"shift":"night","max_load":10} | nurse "n1", number 6 of "working_shifts": "day" is 2, and is to be a whole number from 0, below "days"
 ["early","late","night"] | ["early","late"] | the file: "shift_types" has 2 items, and is to have 3
-"gender":"B" | "gender":2 | patient "p1": "gender" is 2, and is to be a text of 1 to 100 bytes
-"id":"p1" | "id":"" | patient "": "id" is "", and is to be a text of 1 to 100 bytes
+"gender":"B" | "gender":2 | patient "p1": "gender" is 2, and is to be a text between double quotes, of 1 to 100 bytes
+"id":"p1" | "id":"" | patient "": "id" is "", and is to be a text between double quotes, of 1 to 100 bytes
 "#;
 
 const BROKEN: &str = r#"
@@ -83,8 +83,10 @@ const BROKEN: &str = r#"
 "days":2, | "days":2 | line 1, column 9: this number, or what stands right behind it, isn't JSON
 "days":2, | "days":2, // two days | line 1, column 12: JSON has no comments
 "mandatory":true | "mandatory":True | line 6, column 36: true, false and null are written in full, with small letters
-"night","max_load":10}]}]} | "night","max_load":10}]}] | line 20, column 43: the file ends too soon
+"night","max_load":10}]}]} | "night","max_load":10}]}] | line 20, column 43: the file ends too soon: a bracket or a quote before isn't closed
 "night","max_load":10}]}]} | "night","max_load":10}]}]}} | line 20, column 44: this bracket doesn't belong here
+"night","max_load":10}]}]} | "night","max_load":10}]}]} x | line 20, column 45: this can't follow a bracket: delete it, or write what is missing between them
+"days":2, | "days:2, | line 1, column 11: a text ends right before this: perhaps it lacks its first or last double quote
 "#;
 
 #[test]
@@ -129,14 +131,14 @@ const SOLUTION: &str =
 
 // A solution refers to the instance, which is another file.
 const OF_SOLUTIONS: &str = r#"
-"id":"p1" | "id":"P1" | patient "P1": "P1" is none of the instance's patients
-"id":"p1" | "id":"p0" | patient "p0": "id" is given twice: "p0"
-"none" | "tomorrow" | patient "p1": "admission_day" is "tomorrow", and is to be a whole number from 0 to the last day, or "none"
-"admission_day":0 | "admission_day":2 | patient "p0": "admission_day" is 2, and is to be a whole number from 0 to the last day, or "none"
-"room":"r0" | "room":"r7" | patient "p0": "r7" is none of the instance's rooms
-"operating_theater":"t0" | "operating_theater":"T0" | patient "p0": "T0" is none of the instance's operating theaters
-,"operating_theater":"t0" |  | patient "p0" has no "operating_theater"
-"id":"n0" | "id":"n7" | nurse "n7": "n7" is none of the instance's nurses
+"id":"p1" | "id":"P1" | patient "P1": "P1" is none of the ward's patients
+"id":"p1" | "id":"p0" | patient "p0": an earlier one has the same "id": "p0"
+"none" | "tomorrow" | patient "p1": "admission_day" is "tomorrow", and is to be a whole number from 0, below "days", or the text "none"
+"admission_day":0 | "admission_day":2 | patient "p0": "admission_day" is 2, and is to be a whole number from 0, below "days", or the text "none"
+"room":"r0" | "room":"r7" | patient "p0": "r7" is none of the ward's rooms
+"operating_theater":"t0" | "operating_theater":"T0" | patient "p0": "T0" is none of the ward's operating theaters
+,"operating_theater":"t0" |  | patient "p0" has no "operating_theater", which is to be a text between double quotes, of 1 to 100 bytes
+"id":"n0" | "id":"n7" | nurse "n7": "n7" is none of the ward's nurses
 "shift":"late" | "shift":"early" | nurse "n1", number 1 of "assignments": "r0" has a nurse in this shift already
 "#;
 

@@ -165,13 +165,13 @@ carry i s n q --days x
 > store x
 > 3 carry x s n q
 x: instance refused: NotJson at $
-  line 1, column 1: the file ends too soon
+  line 1, column 1: the file is empty
 > 4 carry i x n q
 x: solution refused: NotJson at $
-  line 1, column 1: the file ends too soon
+  line 1, column 1: the file is empty
 > 3 carry i s x q
 x: new instance refused: NotJson at $
-  line 1, column 1: the file ends too soon
+  line 1, column 1: the file is empty
 > no q
 > fail-write 1 9
 > 6 carry i s n q

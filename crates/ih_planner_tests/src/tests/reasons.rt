@@ -52,7 +52,7 @@ s: instance refused: …
 > store i
 > 3 why i
 i: instance refused: NotJson at $
-  line 1, column 1: the file ends too soon
+  line 1, column 1: the file is empty
 > 2 why k
 cannot read k
 > each 1 error: …'--help'.

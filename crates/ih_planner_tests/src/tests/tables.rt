@@ -165,12 +165,12 @@ Writes a solution…
 > store i
 > 3 table i s o
 i: instance refused: NotJson at $
-  line 1, column 1: the file ends too soon
+  line 1, column 1: the file is empty
 > lay two admitted
 > store s
 > 4 table i s o
 s: solution refused: NotJson at $
-  line 1, column 1: the file ends too soon
+  line 1, column 1: the file is empty
 > no o
 > lay two admitted
 > fail-write 1 9

@@ -13,13 +13,13 @@ cannot read k
 > store i
 > 3 view i s p
 i: instance refused: NotJson at $
-  line 1, column 1: the file ends too soon
+  line 1, column 1: the file is empty
 > store i
 = ward
 > store s
 > 4 view i s p
 s: solution refused: NotJson at $
-  line 1, column 1: the file ends too soon
+  line 1, column 1: the file is empty
 > says 1 view i s
 error: …'--help'.
 > says 1 view i s s

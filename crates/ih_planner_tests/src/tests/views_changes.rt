@@ -46,7 +46,7 @@ const DATED: &str = "
 cannot read k
 > 4 view i s q --since o
 o: older solution refused: NotJson at $
-  line 1, column 1: the file ends too soon
+  line 1, column 1: the file is empty
 > says 1 view i s q --since s
 error: two files…'--help'.
 > says 1 view i s q --from 2026-02-29
