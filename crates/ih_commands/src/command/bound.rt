@@ -1,14 +1,13 @@
 //! The command `bound`: its description for `clap`, its values and what it comes to.
 
-ghost use Rattle.std.specs.Prelude.{◌≡◌, IfOk, map, string_bytes};
+ghost use Rattle.std.specs.Prelude.{◌≡◌, ◌++◌, IfOk, map, string_bytes};
 ghost use Rattle.clap.specs.Words.{found_of, rows_of};
 ghost use Rattle.ih_arguments.specs.Matches.{call_by};
-ghost use Rattle.ih_bound.specs.Hints.{HasPrices};
-ghost use Rattle.ih_commands.specs.Calls.Bound.{IsToldOf};
+ghost use Rattle.ih_bound.specs.{Hints.HasPrices, Texts.bound_text};
 ghost use Rattle.ih_plan.specs.Timetable.{IsPlanOf};
 ghost use Rattle.ih_frame.specs.Outcomes.{IsOwnStatus};
 ghost use Rattle.ih_commands.specs.Calls.Bound.{HasBound, HasFewWorkers, IsBounded, bound_app, bound_call, bound_in};
-ghost use Rattle.ih_commands.specs.Calls.Bound.{bound_inputs, judged_status, judged_of, lawful_bound};
+ghost use Rattle.ih_commands.specs.Calls.Bound.{bound_inputs, judged_status, judged_of, lawful_bound, IsToldOf};
 ghost use Rattle.ih_arguments.specs.Explaining.{IsRead};
 
 use crate::command::common::{DEFAULT_WORKERS, INSTANCE, WORKERS};
@@ -129,6 +128,20 @@ fn hints_of(
     }
 }
 
+// What is said of the bound and of the timetable, and behind it of the prices.
+fn whole_text(
+    alloc: Global,
+    found: &Priced,
+    judged: &Option<Judged>,
+    hints: Vec<u8>,
+) -> Result<Vec<u8>, AllocError>
+    ensures { IfOk result (λ text. text.items ≡ bound_text judged.now found.now.outcome ++ hints.items) }
+{
+    let mut text = bound_text(alloc, &found.outcome, judged)?;
+    text.extend_from_slice(hints.as_slice())?;
+    Ok(text)
+}
+
 /// The status by whether nothing infeasible was found.
 pub(crate) fn judged_status(none: bool) -> Status
     ensures value { result ≡ judged_status none }
@@ -167,9 +180,8 @@ impl<'b> ih_frame::Command for Bound<'b> {
     ) -> Result<Outcome<'a>, AllocError> {
         let judged = judged_of(self, &inputs);
         let found = bound_with_prices(rt, alloc, &*inputs.inst, self.rounds, self.workers)?;
-        let mut text = bound_text(alloc, &found.outcome, &judged)?;
         let hints = hints_of(alloc, self, &*inputs.inst, &found)?;
-        text.extend_from_slice(hints.as_slice())?;
+        let text = whole_text(alloc, &found, &judged, hints)?;
         let status = judged_status(no_infeasibility(&judged, &found.outcome));
         Ok(Outcome::said(alloc, status, text))
     }

@@ -1,4 +1,4 @@
-use Rattle.std.proofs.Common.{◌≡◌, ◌∙◌, ◌++◌, ap, ap₂, subst, ℕ, List, Option}
+use Rattle.std.proofs.Common.{◌≡◌, ◌∙◌, ◌++◌, ap, ap₂, subst, Option}
 use Rattle.ih_tables.specs.declared.drafts.Draft.{Draft}
 use Rattle.ih_bound.specs.Bounds.{HoldsOfAll}
 use Rattle.ih_frame.specs.Outcomes.{says}
@@ -14,6 +14,7 @@ returns-clause-comes g c =
     let I = c.args.inputs.inst.value.draft in
     let found = c.in_ok-found.found.outcome in
     let same : c.deref.result.now.draft ≡ I = cc in
+    let again : c.deref-2.result.now.draft ≡ I = cc in
     let holds = subst (λ (X : Draft). HoldsOfAll X found) same c.in_ok-found.ensures.holds in
     let none = c.no_infeasibility.ensures ∙ ap (λ (j : Option Judged). no_infeasibility j found) c.judged_of-judged.ensures in
     record {
@@ -23,8 +24,8 @@ returns-clause-comes g c =
       rounds = c.in_ok-found.ensures.rounds;
       gap = gap-true I c.args.inputs.plan found c.requires.plans.plan holds;
       hints = c.in_ok-hints.hints.items;
-      told = subst (λ (X : Draft). IsToldOf (bound_call c.args.self.now) X found c.in_ok-hints.hints.items) same c.in_ok-hints.ensures;
+      told = subst (λ (X : Draft). IsToldOf (bound_call c.args.self.now) X found c.in_ok-hints.hints.items) again c.in_ok-hints.ensures;
       said = c.said.ensures.outcome
           ∙ ap₂ says (c.judged_status-status.ensures.value ∙ ap judged_status none)
-          (c.in_ok.ensures ∙ ap (λ (ys : List ℕ). ys ++ c.in_ok-hints.hints.items) (c.in_ok-text.ensures ∙ ap (λ (j : Option Judged). bound_text j found) c.judged_of-judged.ensures));
+          (c.in_ok-text.ensures ∙ ap (λ (j : Option Judged). bound_text j found ++ c.in_ok-hints.hints.items) c.judged_of-judged.ensures);
     }
