@@ -101,6 +101,16 @@ th { text-align: left; font-weight: 600; }
 .list th, .list td { padding: 4px 8px; border-top: 1px solid var(--hair); vertical-align: top; }
 .list thead th { border-top: 0; color: var(--soft); font-weight: 400; font-size: var(--small); }
 .list td.n, .list th.n { text-align: right; }
+/* Tables of very many cells: on the screen their columns are equally wide, so that rows out of sight needn't be laid out. */
+@media screen {
+  .great, .great thead, .great tbody { display: block; }
+  .great { min-width: var(--all, 0); }
+  .grid.great thead { position: sticky; top: 0; z-index: 3; }
+  .great tr { display: flex; }
+  .great tbody { content-visibility: auto; contain-intrinsic-size: auto 192px; }
+  .great th, .great td { flex: 1 0 0; min-width: 0; white-space: normal; overflow-wrap: anywhere; }
+  .great tr > :first-child { flex: 0 0 var(--names, 20%); }
+}
 dialog { border: 1px solid var(--line); border-radius: 8px; padding: 12px 16px; color: var(--ink); background: var(--ground); max-width: 440px; box-shadow: 0 8px 32px rgba(0, 0, 0, .28); }
 dialog::backdrop { background: rgba(0, 0, 0, .2); }
 dialog form { text-align: right; margin-top: 8px; }
@@ -188,17 +198,24 @@ function make(name, given, ...inside) {
     else if (key === "style") for (const [property, text] of Object.entries(value)) element.style.setProperty(property, text);
     else element.setAttribute(key, value === true ? "" : value);
   }
-  for (const part of inside.flat(9)) if (part !== null && part !== undefined && part !== false) element.append(part);
+  put(element, inside);
   return element;
 }
-const number = (value) => value.toLocaleString("en-GB");
+function put(element, parts) {
+  for (const part of parts) {
+    if (Array.isArray(part)) put(element, part);
+    else if (part !== null && part !== undefined && part !== false) element.append(part);
+  }
+}
+const english = new Intl.NumberFormat("en-GB");
+const number = (value) => english.format(value);
 const many = (count, one, more) => count === 1 ? `1 ${one}` : `${number(count)} ${more || one + "s"}`;
 
 // Days: by date where the first one is known, else by number.
 const first = data.first === null ? null : new Date(0);
 if (first !== null) first.setUTCFullYear(data.first[0], data.first[1] - 1, data.first[2]);
 const dateOf = (day) => new Date(first.getTime() + day * 86400000);
-const isRest = (day) => first !== null && [0, 6].includes(dateOf(day).getUTCDay());
+const isRest = (day) => first !== null && [0, 6].includes((first.getUTCDay() + day) % 7);
 function dayName(day) {
   if (first === null) return `day ${day}`;
   const date = dateOf(day);
@@ -223,10 +240,16 @@ const nurseAt = (room, shift) => data.care[room][shift];
 const hasChanged = (person) => "was" in person;
 const longest = Math.max(1, ...people.map((person) => person.stay));
 
+// What is asked for again and again is found once: who is in each room, who comes on each day, and what a nurse has.
+const grouped = (list, count, key) => { const groups = Array.from({ length: count }, () => []); for (const one of list) groups[key(one)].push(one); return groups; };
+const stayingIn = grouped(staying, data.rooms.length, (person) => person.at.room);
+const comingOn = grouped(staying.filter((person) => !person.occupant), data.days, (person) => person.at.day);
+const once = (find) => { let found; return () => found ??= find(); };
+
 // Each stay of a room has the first line that is free, by first day. Without an overfull room there are as many lines as beds.
 function linesOf(room) {
   const ends = [], lines = [];
-  for (const person of staying.filter((one) => one.at.room === room).sort((one, other) => from(one) - from(other) || other.stay - one.stay)) {
+  for (const person of [...stayingIn[room]].sort((one, other) => from(one) - from(other) || other.stay - one.stay)) {
     let line = ends.findIndex((end) => end <= from(person));
     if (line < 0) line = ends.push(0) - 1;
     ends[line] = from(person) + person.stay;
@@ -246,8 +269,8 @@ const ABOUT = {
   nurseshift: ([nurse, shift]) => `${data.nurses[nurse].id}, ${shiftName(shift)}`,
 };
 function shiftName(shift) { return `${dayName(Math.floor(shift / 3))}, ${data.shifts[shift % 3]}`; }
-const isBroken = (person) => broken.some((found) => (["stay", "care"].includes(found.cell) && found.of[0] === person.index)
-  || (person.at && ((found.cell === "roomday" && found.of[0] === person.at.room && isIn(person, found.of[1])))));
+const amiss = once(() => new Set(broken.flatMap(({ cell, of: [row, day] }) => ["stay", "care"].includes(cell) ? people[row] : cell === "roomday" ? stayingIn[row].filter((person) => isIn(person, day)) : [])));
+const isBroken = (person) => amiss().has(person);
 
 // What is shown now. It stands behind the '#' of the address, so that it can be kept and sent.
 const view = { tab: "board", days: 7, day: 0, find: "", rule: 0 };
@@ -317,12 +340,14 @@ function barOf(person) {
     from(person) < view.day ? "← " : "", person.id, person.mandatory ? " ★" : "", surgery, from(person) + person.stay > lastShown() ? " →" : "");
 }
 
-function lineCells(line) {
+// A stay is one cell; so are free days beside each other that look alike.
+function lineCells(line, classes) {
   const cells = [];
   for (let day = view.day; day < lastShown();) {
-    const person = line.find((one) => isIn(one, day));
-    const end = person ? Math.min(from(person) + person.stay, lastShown()) : day + 1;
-    cells.push(make("td", { class: cellClass(day), colspan: end - day > 1 ? end - day : null }, person ? barOf(person) : null));
+    const stayOn = (day) => line.find((one) => isIn(one, day)), person = stayOn(day);
+    let end = person ? Math.min(from(person) + person.stay, lastShown()) : day + 1;
+    while (!person && end < lastShown() && classes[end - view.day] === classes[day - view.day] && !stayOn(end)) end += 1;
+    cells.push(make("td", { class: classes[day - view.day], colspan: end - day > 1 ? end - day : null }, person ? barOf(person) : null));
     day = end;
   }
   return cells;
@@ -337,10 +362,11 @@ function nurseCells(room) {
 }
 
 function drawBoard() {
+  const classes = shown().map(cellClass);
   const bodies = data.rooms.map((room, at) => {
     const isWide = view.days <= 14, lines = linesOf(at).filter((line, bed) => bed < room.capacity || line.some((person) => from(person) < lastShown() && view.day < from(person) + person.stay));
     const rows = lines.map((line, bed) => make("tr", { class: [bed === 0 ? "begin" : "", bed >= room.capacity ? "over" : ""].filter(Boolean).join(" ") || null },
-      bed === 0 ? make("th", { class: "room", scope: "rowgroup", rowspan: lines.length + (isWide ? 1 : 0) }, room.id, make("div", { class: "soft small" }, many(room.capacity, "bed"))) : null, lineCells(line)));
+      bed === 0 ? make("th", { class: "room", scope: "rowgroup", rowspan: lines.length + (isWide ? 1 : 0) }, room.id, make("div", { class: "soft small" }, many(room.capacity, "bed"))) : null, lineCells(line, classes)));
     return make("tbody", { class: "one" }, rows, isWide ? make("tr", {}, nurseCells(at)) : null);
   });
   return [make("div", { class: "scroll" }, make("table", { class: "board", style: { "min-width": `${96 + shown().length * (view.days > 14 ? 34 : 92)}px` } },
@@ -354,9 +380,9 @@ function personLine(person, ...more) { return make("li", {}, make("button", { cl
 
 function drawDay() {
   const day = view.day;
-  const coming = staying.filter((person) => !person.occupant && person.at.day === day), inside = staying.filter((person) => isIn(person, day));
+  const coming = comingOn[day], inside = staying.filter((person) => isIn(person, day));
   const goingHome = staying.filter((person) => from(person) + person.stay === day + 1);
-  const rooms = data.rooms.map((room, at) => ({ room, at, persons: inside.filter((person) => person.at.room === at) }))
+  const rooms = data.rooms.map((room, at) => ({ room, at, persons: stayingIn[at].filter((person) => isIn(person, day)) }))
     .filter(({ room, at, persons }) => matches(room.id, ...persons.map((person) => person.id), ...[0, 1, 2].map((shift) => nurseAt(at, 3 * day + shift)).filter((nurse) => nurse !== null).map((nurse) => data.nurses[nurse].id)));
   const theatres = data.theatres.map((theatre, at) => ({ theatre, list: coming.filter((person) => person.at.theatre === at) })).filter(({ theatre, list }) => theatre.minutes[day] > 0 || list.length);
   return [make("h2", {}, dayName(day)),
@@ -374,14 +400,18 @@ function drawDay() {
     }))];
 }
 
+// What a table is that has so many rows and columns, and how wide it is if they are very many. Its rows stand by eight.
+const sized = (kind, rows, columns, style) => rows * columns < 4000 ? { class: kind } : { class: `${kind} great`, style };
+const bodies = (rows) => Array.from({ length: Math.ceil(rows.length / 8) }, (_, at) => make("tbody", {}, rows.slice(8 * at, 8 * at + 8)));
 function loadGrid(heading, rows, cells) {
-  return make("div", { class: "scroll" }, make("table", { class: "grid" }, make("thead", {}, make("tr", {}, make("th", { scope: "col" }, heading), dayHeads())),
-    make("tbody", {}, rows.map((row, at) => matches(row.id) ? make("tr", {}, make("th", { scope: "row" }, row.id), cells(row, at)) : null))));
+  const names = 20 + 9 * Math.max(heading.length, ...rows.map((row) => row.id.length)), days = shown().length;
+  return make("div", { class: "scroll" }, make("table", sized("grid", rows.length, days, { "--names": `${names}px`, "--all": `${names + 100 * days}px` }), make("thead", {}, make("tr", {}, make("th", { scope: "col" }, heading), dayHeads())),
+    bodies(rows.flatMap((row, at) => matches(row.id) ? make("tr", {}, make("th", { scope: "row" }, row.id), cells(row, at)) : []))));
 }
 function loadCell(day, load, most, title) {
   return make("td", { class: ["load", load > most ? "over" : "", isRest(day) ? "rest" : ""].join(" "), title }, load || most ? [make("i", { style: { width: `calc(${Math.min(100, 100 * load / Math.max(1, most, load))}% - 2px)` } }), make("b", {}, load > most ? make("span", { class: "warn" }, `${load}`) : `${load}`, make("span", { class: "soft small" }, ` / ${most}`))] : null);
 }
-const operated = (day, of, key) => staying.filter((person) => !person.occupant && person.at.day === day && (key === "theatre" ? person.at.theatre : person.surgeon) === of);
+const operated = (day, of, key) => comingOn[day].filter((person) => (key === "theatre" ? person.at.theatre : person.surgeon) === of);
 function minutesOf(list) { return list.reduce((sum, person) => sum + person.minutes, 0); }
 const names = (list) => list.map((person) => `${person.id} (${person.minutes} min)`).join(", ");
 
@@ -389,23 +419,33 @@ function drawTheatres() { return [make("h2", {}, "Minutes of surgery in each the
 function drawSurgeons() { return [make("h2", {}, "Minutes of surgery of each surgeon, of those that are allowed"), loadGrid("Surgeon", data.surgeons, (surgeon, at) => shown().map((day) => { const list = operated(day, at, "surgeon"); return loadCell(day, minutesOf(list), surgeon.minutes[day], names(list)); }))]; }
 
 // What a nurse has in a shift: the rooms, and the workload of those who are in them.
-function shiftOf(nurse, shift) {
-  const day = Math.floor(shift / 3), rooms = data.rooms.map((_, at) => at).filter((at) => nurseAt(at, shift) === nurse);
-  const cared = staying.filter((person) => rooms.includes(person.at.room) && isIn(person, day));
-  return { rooms, load: cared.reduce((sum, person) => sum + person.loads[shift - 3 * from(person)], 0), persons: cared.length };
-}
+const free = { rooms: [], load: 0, persons: 0 };
+const works = once(() => {
+  const all = data.nurses.map(() => []);
+  data.care.forEach((nurses, room) => nurses.forEach((nurse, shift) => { if (nurse !== null) (all[nurse][shift] ||= { rooms: [], load: 0, persons: 0 }).rooms.push(room); }));
+  for (const person of staying) for (let shift = 3 * from(person); shift < 3 * until(person); shift += 1) {
+    const nurse = nurseAt(person.at.room, shift);
+    if (nurse === null) continue;
+    all[nurse][shift].load += person.loads[shift - 3 * from(person)];
+    all[nurse][shift].persons += 1;
+  }
+  return all;
+});
+const shiftOf = (nurse, shift) => works()[nurse][shift] || free;
 function drawNurses() {
-  const cells = (nurse, at) => shown().flatMap((day) => [0, 1, 2].map((part) => {
+  const days = shown(), namesOf = (rooms) => rooms.map((room) => data.rooms[room].id);
+  const cells = (nurse, at) => days.flatMap((day) => [0, 1, 2].map((part) => {
     const shift = 3 * day + part, most = nurse.most[shift];
     const { rooms, load } = shiftOf(at, shift);
     if (most === null && rooms.length === 0) return make("td", { class: isRest(day) ? "rest" : null });
-    const title = `${shiftName(shift)}: workload ${load} of ${most ?? "none"}; ${rooms.map((room) => data.rooms[room].id).join(", ") || "no room"}`;
+    const title = `${shiftName(shift)}: workload ${load} of ${most ?? "none"}; ${namesOf(rooms).join(", ") || "no room"}`;
     return make("td", { class: ["load", most === null || load > most ? "over" : "", isRest(day) ? "rest" : ""].join(" "), title },
-      make("i", { style: { width: `calc(${Math.min(100, 100 * load / Math.max(1, most ?? 0, load))}% - 2px)` } }), make("b", {}, rooms.length ? rooms.map((room) => data.rooms[room].id).join(" ") : "·"));
+      make("i", { style: { width: `calc(${Math.min(100, 100 * load / Math.max(1, most ?? 0, load))}% - 2px)` } }), make("b", {}, rooms.length ? namesOf(rooms).join(" ") : "·"));
   }));
+  const names = 80 + 9 * Math.max(0, ...data.nurses.map((nurse) => nurse.id.length)), cell = works().flat().reduce((most, { rooms }) => Math.max(most, 12 + 9 * namesOf(rooms).join(" ").length), 60);
   return [make("h2", {}, "Nurses: their rooms in each shift; the bar is the workload, of the most that it may be"),
-    make("div", { class: "scroll" }, make("table", { class: "grid" }, make("thead", {}, make("tr", {}, make("th", { scope: "col" }, "Nurse"), shown().flatMap((day) => [0, 1, 2].map((part) => make("th", { scope: "col", class: isRest(day) ? "rest" : null }, part === 0 ? `${dayName(day)} ` : "", data.shifts[part]))))),
-      make("tbody", {}, data.nurses.map((nurse, at) => matches(nurse.id) ? make("tr", {}, make("th", { scope: "row" }, nurse.id, make("span", { class: "soft small" }, ` skill ${nurse.skill}`)), cells(nurse, at)) : null)))), shareOut()];
+    make("div", { class: "scroll" }, make("table", sized("grid", data.nurses.length, 3 * days.length, { "--names": `${names}px`, "--all": `${names + 3 * days.length * cell}px` }), make("thead", {}, make("tr", {}, make("th", { scope: "col" }, "Nurse"), days.flatMap((day) => [0, 1, 2].map((part) => make("th", { scope: "col", class: isRest(day) ? "rest" : null }, part === 0 ? `${dayName(day)} ` : "", data.shifts[part]))))),
+      bodies(data.nurses.flatMap((nurse, at) => matches(nurse.id) ? make("tr", {}, make("th", { scope: "row" }, nurse.id, make("span", { class: "soft small" }, ` skill ${nurse.skill}`)), cells(nurse, at)) : [])))), shareOut()];
 }
 function shareOut() {
   const rows = data.nurses.map((nurse, at) => {
@@ -432,15 +472,15 @@ function drawChanges() {
     ["Another theatre alone", (person) => person.at && person.was && person.at.day === person.was.day && person.at.room === person.was.room], ["Came in", (person) => person.at && !person.was], ["Left out now", (person) => !person.at && person.was]];
   const moved = [];
   since.nurses.forEach((shifts, at) => shifts.forEach((was, shift) => {
-    if (staying.some((person) => person.at.room === at && isIn(person, Math.floor(shift / 3)))) moved.push({ at, shift, nurse: nurseAt(at, shift), was });
+    if (stayingIn[at].some((person) => isIn(person, Math.floor(shift / 3)))) moved.push({ at, shift, nurse: nurseAt(at, shift), was });
   }));
   const name = (nurse) => nurse === null ? "nobody" : data.nurses[nurse].id;
   return [make("p", {}, kinds.map(([kind, holds]) => `${kind}: ${known.filter(holds).length}`).join("; "), `; another nurse: ${many(moved.length, "shift")} of occupied rooms.`),
     kinds.map(([kind, holds]) => { const list = known.filter(holds); return list.length === 0 ? null : [make("h2", {}, `${kind}: ${list.length}`), make("table", { class: "list" }, make("thead", {}, make("tr", {}, ["Patient", "was", "is now"].map((text) => make("th", { scope: "col" }, text)))),
       make("tbody", {}, list.map((person) => make("tr", {}, make("th", { scope: "row" }, make("button", { class: "link", on: { click: () => showPerson(person) } }, person.id)), make("td", {}, placeText(person.was)), make("td", {}, placeText(person.at))))))]; }),
     billChanges(),
-    moved.length === 0 ? null : [make("h2", {}, `Another nurse: ${many(moved.length, "shift")} of occupied rooms`), make("table", { class: "list" }, make("thead", {}, make("tr", {}, ["Room", "shift", "was", "is now"].map((text) => make("th", { scope: "col" }, text)))),
-      make("tbody", {}, moved.map(({ at, shift, nurse, was }) => make("tr", {}, make("th", { scope: "row" }, data.rooms[at].id), make("td", {}, shiftName(shift)), make("td", {}, name(was)), make("td", {}, name(nurse))))))]];
+    moved.length === 0 ? null : [make("h2", {}, `Another nurse: ${many(moved.length, "shift")} of occupied rooms`), make("table", sized("list", moved.length, 4), make("thead", {}, make("tr", {}, ["Room", "shift", "was", "is now"].map((text) => make("th", { scope: "col" }, text)))),
+      bodies(moved.map(({ at, shift, nurse, was }) => make("tr", {}, make("th", { scope: "row" }, data.rooms[at].id), make("td", {}, shiftName(shift)), make("td", {}, name(was)), make("td", {}, name(nurse))))))]];
 }
 
 // What the cost and its parts came to, and what they come to now.
