@@ -277,6 +277,7 @@ const view = { tab: "board", days: 7, day: 0, find: "", rule: 0 };
 function readView() {
   const given = new URLSearchParams(location.hash.slice(1));
   view.tab = given.get("tab") || "board";
+  if (view.tab === "changes" && !data.since) view.tab = "board";
   view.days = Math.max(1, Math.min(data.days, +(given.get("days") || 7)));
   view.day = Math.max(0, Math.min(data.days - 1, +(given.get("day") ?? today() ?? 0)));
   view.find = given.get("find") || "";
