@@ -1,4 +1,5 @@
 pub mod Calls
+pub mod Described
 pub mod FirstWord
 pub mod ImproveEnding
 pub mod NoPlan

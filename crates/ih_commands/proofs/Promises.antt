@@ -1,9 +1,8 @@
 -- What a call of improve leaves, once all its rounds are over.
 use Rattle.std.proofs.Common.{◌≡◌, ◌∙◌, ℕ, ◌+◌, ◌<◌, ◌≤◌, refl, sym, ap, subst, arith, inl, inr, Bool, true, false, List, [], ◌∷◌, ◌++◌, append_assoc, append-nil, length, Option, Some, None}
-use Rattle.std.specs.Prelude.{codes, ◌⊎◌, ◌&&◌, ◌*◌, IfSome, if◌then◌else◌}
+use Rattle.std.specs.Prelude.{codes, ◌⊎◌, ◌&&◌, IfSome, if◌then◌else◌}
 use Rattle.std.proofs.lemmas.Bool.{and_parts}
-use Rattle.std.proofs.lemmas.Int.{ints}
-use Rattle.ih_tables.specs.Bills.{cost, feasible}
+use Rattle.ih_tables.specs.Bills.{feasible}
 use Rattle.ih_bound.specs.declared.outcomes.Outcome.{Outcome}
 use Rattle.ih_plan.specs.Timetable.{Timetable}
 use Rattle.ih_plan.specs.BillOf.{bill_of}
@@ -11,7 +10,7 @@ use Rattle.ih_shelf.specs.Outside.{IfTold, IsWritten, Names}
 use Rattle.ih_solution.specs.Solution.{solution}
 use Rattle.ih_validate.specs.Report.{report}
 use Rattle.ih_inputs.specs.Reading.{HasOlder, HasSolution}
-use Rattle.ih_improve.specs.Better.{counted_changes, is_better_than}
+use Rattle.ih_improve.specs.Better.{is_better_than}
 use Rattle.ih_improve.specs.Following.{IsNoDearer, IsNoWorse, MayFollow}
 use Rattle.ih_improve.specs.ImproverState.{ImproverState, terms_of}
 use Rattle.ih_improve.specs.Terms.{Terms}
@@ -32,7 +31,7 @@ use Rattle.ih_commands.specs.declared.pacing.Length.TheVariants.{Attempts, Secon
 use Rattle.ih_commands.specs.Laws.{DoneCallsHaveImproved, IsDraft, IsDrafted, IsImproved, IsInOut, NoneFoundLeavesADraft, call_terms}
 use Rattle.ih_commands.specs.Pinning.{unknown_patient}
 use Rattle.ih_commands.specs.Rounds.{IsRound, IsSearched, SearchTask, beats, changes_text, draft_writes, end_text, first_text, gap_so_far, goes_out, kept_line, round_line, stays, unfound}
-use Rattle.ih_commands.specs.Searching.{IsSearch, PinsNobody, SearchEnds, task_of}
+use Rattle.ih_commands.specs.Searching.{IsSearch, PinsNobody, task_of}
 use Rattle.ih_commands.proofs.RoundsTaken.{came, holds}
 
 -- a status that isn't another one, nor what that becomes where its text can't be put out

@@ -27,6 +27,7 @@ pub mod Improve
 pub mod Table
 pub mod View
 pub mod Why
+pub mod Worded
 
 -- a call of one of the commands
 pub data Call : Type 0 where

@@ -10,6 +10,7 @@ ghost use Rattle.ih_commands.specs.Calls.{program_app};
 ghost use Rattle.ih_commands.specs.Ends.{CallEnds, HasFewPuts};
 
 pub mod bound;
+mod calls;
 pub mod carry;
 pub mod check;
 mod common;
@@ -19,13 +20,14 @@ pub mod table;
 pub mod view;
 pub mod why;
 
-use crate::command::bound::{BOUND, Bound, read_bound};
-use crate::command::carry::{CARRY, Carry, read_carry};
-use crate::command::check::{CHECK, Check, read_check};
-use crate::command::improve_words::{IMPROVE, Improve, read_improve};
-use crate::command::table::{TABLE, Table, read_table};
-use crate::command::view::{VIEW, View, read_view};
-use crate::command::why::{WHY, Why, read_why};
+use crate::command::bound::{BOUND, Bound};
+use crate::command::calls::read_call;
+use crate::command::carry::{CARRY, Carry};
+use crate::command::check::{CHECK, Check};
+use crate::command::improve_words::{IMPROVE, Improve};
+use crate::command::table::{TABLE, Table};
+use crate::command::view::{VIEW, View};
+use crate::command::why::{WHY, Why};
 use crate::improving::improve;
 use crate::watches::Watch;
 use ih_arguments::arguments::{Description, with_commands};
@@ -93,13 +95,13 @@ fn read_named<'a>(alloc: Global, name: &str, words: &'a [String]) -> Result<Comm
     ensures lawful { IfOk result HasLawfulSettings }
 {
     match name {
-        "improve" => Ok(Command::Improve(read_improve(alloc, words)?)),
-        "view" => Ok(Command::View(read_view(alloc, words)?)),
-        "bound" => Ok(Command::Bound(read_bound(alloc, words)?)),
-        "check" => Ok(Command::Check(read_check(alloc, words)?)),
-        "carry" => Ok(Command::Carry(read_carry(alloc, words)?)),
-        "table" => Ok(Command::Table(read_table(alloc, words)?)),
-        "why" => Ok(Command::Why(read_why(alloc, words)?)),
+        "improve" => Ok(Command::Improve(read_call(alloc, words)?)),
+        "view" => Ok(Command::View(read_call(alloc, words)?)),
+        "bound" => Ok(Command::Bound(read_call(alloc, words)?)),
+        "check" => Ok(Command::Check(read_call(alloc, words)?)),
+        "carry" => Ok(Command::Carry(read_call(alloc, words)?)),
+        "table" => Ok(Command::Table(read_call(alloc, words)?)),
+        "why" => Ok(Command::Why(read_call(alloc, words)?)),
         _ => Err(explained_commands(alloc, words)),
     }
 }

@@ -3,7 +3,7 @@ use Rattle.std.specs.Prelude.{◌≡◌, ℕ, ◌≤◌, Bool, true, false, List
 use Rattle.clap.specs.Words.{App, Row, Text, first_of, new_app, with_rule}
 use Rattle.ih_plan.specs.declared.limits.TheConstants.{MAX_WORKERS}
 use Rattle.ih_arguments.specs.Arguments.{flag, named, optional_between, optional_name}
-use Rattle.ih_arguments.specs.Matches.{HasText, IsNumberIfGiven, flag_at, number_if_given, text_at}
+use Rattle.ih_arguments.specs.Matches.{IsNumberIfGiven, flag_at, number_if_given, text_at}
 use Rattle.ih_tables.specs.declared.drafts.Draft.{Draft}
 use Rattle.ih_plan.specs.Timetable.{Timetable}
 use Rattle.ih_inputs.specs.Reading.{Given, InputFiles, said_files}
@@ -58,9 +58,8 @@ HasFewWorkers b = b.workers ≤ MAX_WORKERS
 abbrev pub bound_inputs : BoundCall → InputFiles
 bound_inputs c = said_files c.instance c.solution
 
--- what the rules of its arguments say of the matches of bound
+-- the numbers that the matches of bound give are within their limits
 pub record HasBound (rows : List Row) : Type 0 where
-  pub instance : HasText (codes "INSTANCE") rows
   pub rounds : IsNumberIfGiven 1 MAX_BOUND_ROUNDS (codes "rounds") rows
   pub workers : IsNumberIfGiven 1 MAX_WORKERS (codes "workers") rows
 

@@ -1,5 +1,5 @@
 -- The command `carry`: its description for `clap`, its values and what it comes to.
-use Rattle.std.specs.Prelude.{◌≡◌, ℕ, true, List, [], ◌∷◌, Option, Some, None, codes, if◌then◌else◌, unwrap_or}
+use Rattle.std.specs.Prelude.{◌≡◌, ℕ, List, [], ◌∷◌, Option, Some, None, codes, if◌then◌else◌, unwrap_or}
 use Rattle.clap.specs.Words.{App, Row, Text, new_app, with_rule}
 use Rattle.ih_tables.specs.declared.drafts.Draft.{Draft}
 use Rattle.ih_plan.specs.declared.limits.TheConstants.{MAX_FREEZE}
@@ -9,8 +9,8 @@ use Rattle.ih_carry.specs.Account.{account}
 use Rattle.ih_carry.specs.Handovers.{HandoverData, IsCarried}
 use Rattle.ih_arguments.specs.Arguments.{named, optional_between}
 use Rattle.ih_arguments.specs.Distinct.{all_differ}
-use Rattle.ih_arguments.specs.Matches.{HasText, IsNumberIfGiven, number_at, text_at}
-use Rattle.ih_inputs.specs.Reading.{Given, InputFiles}
+use Rattle.ih_arguments.specs.Matches.{number_at, text_at}
+use Rattle.ih_inputs.specs.Reading.{Given, InputFiles, said_files}
 use Rattle.ih_endings.specs.declared.status.Role.TheVariants.{Out}
 use Rattle.ih_frame.specs.Outcomes.{OutcomeState, writes_one}
 use Rattle.ih_commands.specs.declared.command.carry.Carry.{Carry}
@@ -40,22 +40,7 @@ carry_call c = record { ward = c.ward.now; plan = c.plan.now; next = c.next.now;
 
 -- the files that the call reads
 abbrev pub carry_inputs : CarryCall → InputFiles
-carry_inputs c = record {
-  instance = c.ward;
-  solution = Some c.plan;
-  older = None;
-  journal = None;
-  next = Some c.next;
-  are_said = true;
-}
-
--- what the rules of its arguments say of the matches of carry
-pub record HasCarry (rows : List Row) : Type 0 where
-  pub ward : HasText (codes "OLD_WARD") rows
-  pub plan : HasText (codes "OLD_PLAN") rows
-  pub next : HasText (codes "NEW_WARD") rows
-  pub out : HasText (codes "NEW_PLAN") rows
-  pub days : IsNumberIfGiven 0 MAX_FREEZE (codes "days") rows
+carry_inputs c = record (said_files c.ward (Some c.plan)) { next = Some c.next }
 
 -- the call of carry, by `clap`'s matches
 abbrev pub carry_in : List Row → CarryCall

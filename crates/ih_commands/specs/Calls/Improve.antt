@@ -4,7 +4,7 @@ use Rattle.clap.specs.Words.{App, Row, Text, first_of, new_app, with_rule}
 use Rattle.ih_plan.specs.declared.limits.TheConstants.{MAX_FREEZE, MAX_HARD, MAX_HEAT, MAX_WORKERS}
 use Rattle.ih_arguments.specs.Arguments.{flag, named, optional, optional_any, optional_between, optional_number, repeated}
 use Rattle.ih_arguments.specs.Distinct.{all_differ}
-use Rattle.ih_arguments.specs.Matches.{HasText, IsNumberIfGiven, flag_at, is_given, number_if_given, text_at, texts_at}
+use Rattle.ih_arguments.specs.Matches.{IsNumberIfGiven, flag_at, is_given, number_if_given, text_at, texts_at}
 use Rattle.ih_arguments.specs.Start.{StartCall, freezes_a_file, start_call, start_files, start_in, takes_a_file, with_start}
 use Rattle.ih_inputs.specs.Reading.{InputFiles, said_files}
 use Rattle.ih_improve.specs.Given.{widest}
@@ -104,10 +104,8 @@ AreOptionsWithin c =
     attempts_of c.pace.length ≤ MAX_CALL_ATTEMPTS → unwrap_or c.settings.cold 0 ≤ unwrap_or c.settings.hot MAX_HEAT
     → IsLawfulCall c
 
--- what the rules of its arguments say of the matches of improve
+-- the numbers that the matches of improve give are within their limits
 pub record HasImprove (rows : List Row) : Type 0 where
-  pub instance : HasText (codes "INSTANCE") rows
-  pub out : HasText (codes "OUT") rows
   pub seconds : IsNumberIfGiven 1 MAX_SECONDS (codes "seconds") rows
   pub attempts : IsNumberIfGiven 0 18446744073709551615 (codes "attempts") rows
   pub seed : IsNumberIfGiven 0 18446744073709551615 (codes "seed") rows

@@ -8,11 +8,11 @@ use Rattle.jiff.specs.Words.{date_parts}
 use Rattle.jiff_fmt.specs.Temporal.{DateParts}
 use Rattle.ih_arguments.specs.Arguments.{files_app, named, optional}
 use Rattle.ih_arguments.specs.Distinct.{all_differ}
-use Rattle.ih_arguments.specs.Matches.{HasNames, text_at}
+use Rattle.ih_arguments.specs.Matches.{text_at}
 use Rattle.ih_sheet.specs.declared.subjects.Subject.{Subject}
 use Rattle.ih_sheet.specs.declared.subjects.Subject.TheVariants.{Calendar, Nurses, Patients, Rooms, Theatres}
 use Rattle.ih_sheet.specs.Sheets.{IsTable}
-use Rattle.ih_inputs.specs.Reading.{Given, InputFiles}
+use Rattle.ih_inputs.specs.Reading.{Given, InputFiles, said_files}
 use Rattle.ih_endings.specs.declared.status.Role.TheVariants.{Out}
 use Rattle.ih_frame.specs.Outcomes.{OutcomeState, writes_one}
 use Rattle.ih_commands.specs.Calls.Days.{date_in, names_a_day}
@@ -47,18 +47,7 @@ table_call t = record {
 
 -- the files that the call reads
 abbrev pub table_inputs : TableCall → InputFiles
-table_inputs t = record {
-  instance = t.instance;
-  solution = Some t.solution;
-  older = None;
-  journal = None;
-  next = None;
-  are_said = true;
-}
-
--- each of its file names is there
-abbrev pub HasTableNames : List Row → Type 0
-HasTableNames rows = HasNames rows (codes "INSTANCE") (codes "SOLUTION") (codes "OUT")
+table_inputs t = said_files t.instance (Some t.solution)
 
 -- the subject that a word names, if it names one
 abbrev pub subject_in : Text → Option Subject

@@ -1,14 +1,14 @@
 -- The command `view`: its description for `clap`, its values and what it comes to.
-use Rattle.std.specs.Prelude.{◌≡◌, ◌&&◌, true, List, [], ◌∷◌, Option, Some, None, codes, if◌then◌else◌, option_and_then, option_map, option_to_list, unwrap_or}
+use Rattle.std.specs.Prelude.{◌≡◌, ◌&&◌, List, [], ◌∷◌, Option, Some, None, codes, if◌then◌else◌, option_and_then, option_map, option_to_list, unwrap_or}
 use Rattle.clap.specs.Words.{App, Row, Text, first_of, with_rule}
 use Rattle.jiff.specs.Types.{Date}
 use Rattle.jiff.specs.Words.{date_parts}
 use Rattle.jiff_fmt.specs.Temporal.{DateParts}
 use Rattle.ih_arguments.specs.Arguments.{files_app, named, optional}
 use Rattle.ih_arguments.specs.Distinct.{all_differ}
-use Rattle.ih_arguments.specs.Matches.{HasNames, text_at}
+use Rattle.ih_arguments.specs.Matches.{text_at}
 use Rattle.ih_page.specs.Page.{HeadingTexts, page_of}
-use Rattle.ih_inputs.specs.Reading.{Given, InputFiles}
+use Rattle.ih_inputs.specs.Reading.{Given, InputFiles, said_files}
 use Rattle.ih_endings.specs.declared.status.Role.TheVariants.{Out}
 use Rattle.ih_frame.specs.Outcomes.{OutcomeState, writes_one}
 use Rattle.ih_commands.specs.Calls.Days.{date_in, names_a_day}
@@ -47,18 +47,7 @@ view_call v = record {
 
 -- the files that the call reads
 abbrev pub view_inputs : ViewCall → InputFiles
-view_inputs v = record {
-  instance = v.instance;
-  solution = Some v.solution;
-  older = v.since;
-  journal = None;
-  next = None;
-  are_said = true;
-}
-
--- each of its file names is there
-abbrev pub HasViewNames : List Row → Type 0
-HasViewNames rows = HasNames rows (codes "INSTANCE") (codes "SOLUTION") (codes "PAGE")
+view_inputs v = record (said_files v.instance (Some v.solution)) { older = v.since }
 
 -- the call of view, by `clap`'s matches
 abbrev pub view_in : List Row → ViewCall

@@ -11,7 +11,7 @@ use Rattle.ih_waiting.specs.Waiting.{waiting_text}
 use Rattle.ih_mends.specs.Texts.{mends_text}
 use Rattle.ih_warnings.specs.Warnings.{warnings}
 use Rattle.ih_arguments.specs.Arguments.{named, optional_between, optional_name}
-use Rattle.ih_arguments.specs.Matches.{HasText, IsNumberIfGiven, number_if_given, text_at}
+use Rattle.ih_arguments.specs.Matches.{number_if_given, text_at}
 use Rattle.ih_inputs.specs.Reading.{Given, InputFiles, said_files}
 use Rattle.ih_frame.specs.Outcomes.{OutcomeState, says}
 use Rattle.ih_commands.specs.Calls.Bound.{judged_status}
@@ -43,11 +43,6 @@ HasFewToAsk w = w.workers ≤ MAX_WORKERS
 -- the files that the call reads
 abbrev pub why_inputs : WhyCall → InputFiles
 why_inputs w = said_files w.instance w.solution
-
--- what the rules of its arguments say of the matches of why
-pub record HasWhy (rows : List Row) : Type 0 where
-  pub instance : HasText (codes "INSTANCE") rows
-  pub workers : IsNumberIfGiven 1 MAX_WORKERS (codes "workers") rows
 
 -- the call of why, by `clap`'s matches
 abbrev pub why_in : List Row → WhyCall

@@ -1,21 +1,22 @@
 //! The command `bound`: its description for `clap`, its values and what it comes to.
 
-ghost use Rattle.std.specs.Prelude.{◌≡◌, ◌++◌, IfOk, map, string_bytes};
+ghost use Rattle.std.specs.Prelude.{◌≡◌, ◌++◌, IfOk};
 ghost use Rattle.clap.specs.Words.{found_of, rows_of};
-ghost use Rattle.ih_arguments.specs.Matches.{call_by};
 ghost use Rattle.ih_bound.specs.{Hints.HasPrices, Texts.bound_text};
 ghost use Rattle.ih_plan.specs.Timetable.{IsPlanOf};
 ghost use Rattle.ih_frame.specs.Outcomes.{IsOwnStatus};
-ghost use Rattle.ih_commands.specs.Calls.Bound.{HasBound, HasFewWorkers, IsBounded, bound_app, bound_call, bound_in};
-ghost use Rattle.ih_commands.specs.Calls.Bound.{bound_inputs, judged_status, judged_of, lawful_bound, IsToldOf};
-ghost use Rattle.ih_arguments.specs.Explaining.{IsRead};
+ghost use Rattle.ih_commands.specs.Calls.Bound.{BoundCall, HasBound, HasFewWorkers, IsBounded, IsToldOf, bound_app};
+ghost use Rattle.ih_commands.specs.Calls.Bound.{bound_call, bound_in, bound_inputs, judged_of, judged_status};
+ghost use Rattle.ih_commands.specs.Calls.Bound.{lawful_bound};
+ghost use Rattle.ih_commands.specs.Calls.Worded.{IsDescribed};
 
-use crate::command::common::{DEFAULT_WORKERS, INSTANCE, WORKERS};
+use crate::command::calls::Worded;
+use crate::command::common::{DEFAULT_WORKERS, INSTANCE, WORKERS, said_names};
 use clap::ArgMatches;
 use ih_arguments::argument;
 use ih_arguments::arguments::{Argument, Description, Kind};
-use ih_arguments::explaining::{NoCall, explained};
-use ih_arguments::matches::{flag_of, matched, number_if_given, optional_text_of, text_of};
+use ih_arguments::explaining::NoCall;
+use ih_arguments::matches::{flag_of, number_if_given, optional_text_of, text_of};
 use ih_bound::{
     Judged, Priced, bound_text, bound_with_prices, hints_text, judge, no_infeasibility,
 };
@@ -88,15 +89,26 @@ fn bound_in<'a>(matches: &ArgMatches<'a>) -> Bound<'a>
     }
 }
 
-// Reads the words of `bound`.
-pub(crate) fn read_bound<'a>(alloc: Global, words: &'a [String]) -> Result<Bound<'a>, NoCall>
-    ensures read { IsRead bound_call (call_by bound_app lawful_bound (map string_bytes words.entry.now)) bound_app
-        (map string_bytes words.entry.now) result }
-    ensures lawful { IfOk result HasFewWorkers }
-{
-    match matched(alloc, &BOUND, words) {
-        Ok(matches) => Ok(bound_in(&matches)),
-        Err(error) => Err(explained(alloc, error)),
+impl<'a> Worded<'a> for Bound<'a> {
+    ghost Call = { BoundCall };
+
+    ghost app = { bound_app };
+
+    ghost call = { bound_call };
+
+    ghost lawful = { lawful_bound };
+
+    ghost holds = { HasFewWorkers };
+
+    #[tactic(auto, unfolding(crate::specs::Calls::Bound::bound_app, crate::proofs::Described::on_descriptions))]
+    fn description() -> Description<'static, 'static>
+        ensures { IsDescribed bound_app result }
+    {
+        BOUND
+    }
+
+    fn of_matches(_alloc: Global, matches: &ArgMatches<'a>) -> Result<Bound<'a>, NoCall> {
+        Ok(bound_in(matches))
     }
 }
 
@@ -162,14 +174,7 @@ impl<'b> ih_frame::Command for Bound<'b> {
     ghost comes_to = { λ b. IsBounded (bound_call b) };
 
     fn names(&self) -> InputNames<'_> {
-        InputNames {
-            instance: self.instance,
-            solution: self.solution,
-            older: None,
-            journal: None,
-            next: None,
-            are_said: true,
-        }
+        said_names(self.instance, self.solution)
     }
 
     fn outcome<'a, R: Threads + Wait + Sync>(

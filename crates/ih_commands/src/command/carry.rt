@@ -1,18 +1,22 @@
 //! The command `carry`: its description for `clap`, its values and what it comes to.
 
-ghost use Rattle.std.specs.Prelude.{◌≡◌, map, string_bytes};
+ghost use Rattle.std.specs.Prelude.{◌≡◌, codes};
 ghost use Rattle.clap.specs.Words.{found_of, rows_of};
-ghost use Rattle.ih_arguments.specs.{Distinct.all_differ, Explaining.IsRead, Matches.call_by};
+ghost use Rattle.ih_plan.specs.declared.limits.TheConstants.{MAX_FREEZE};
+ghost use Rattle.ih_arguments.specs.{Distinct.all_differ, Matches.IsNumberIfGiven};
 ghost use Rattle.ih_inputs.specs.Reading.{given_of};
-ghost use Rattle.ih_commands.specs.Calls.Carry.{HasCarry, IsCarriedOver, carry_app, carry_call, carry_files, carry_in};
+ghost use Rattle.ih_commands.specs.Calls.Carry.{CarryCall, IsCarriedOver, carry_app, carry_call, carry_files, carry_in};
 ghost use Rattle.ih_commands.specs.Calls.Carry.{carry_inputs, lawful_carry, next_ward};
+ghost use Rattle.ih_commands.specs.Calls.Worded.{IsDescribed};
 
+use crate::command::calls::Worded;
+use crate::command::common::{equal_names, said_names};
 use clap::ArgMatches;
 use ih_arguments::argument;
 use ih_arguments::arguments::{Argument, Description, Kind};
-use ih_arguments::explaining::{NoCall, explained, refused};
+use ih_arguments::explaining::NoCall;
 use ih_arguments::file_names::names_differ;
-use ih_arguments::matches::{matched, optional_u32_of, text_of};
+use ih_arguments::matches::{optional_u32_of, text_of};
 use ih_carry::{Handover, account, carry};
 use ih_endings::Role;
 use ih_frame::Outcome;
@@ -67,7 +71,7 @@ pub const CARRY: Description<'static, 'static> = Description {
 
 // The values of `carry`.
 fn carry_in<'a>(matches: &ArgMatches<'a>) -> Carry<'a>
-    requires { HasCarry (rows_of (found_of matches.now)) }
+    requires { IsNumberIfGiven 0 MAX_FREEZE (codes "days") (rows_of (found_of matches.now)) }
     ensures { carry_call result ≡ carry_in (rows_of (found_of matches.now)) }
 {
     Carry {
@@ -86,21 +90,31 @@ fn files_differ(carry: &Carry) -> bool
     names_differ(carry.ward, carry.plan, carry.next, Some(carry.out))
 }
 
-// Reads the words of `carry`.
-pub(crate) fn read_carry<'a>(alloc: Global, words: &'a [String]) -> Result<Carry<'a>, NoCall>
-    ensures { IsRead carry_call (call_by carry_app lawful_carry (map string_bytes words.entry.now)) carry_app
-        (map string_bytes words.entry.now) result }
-{
-    match matched(alloc, &CARRY, words) {
-        Ok(matches) => {
-            let carry = carry_in(&matches);
-            if files_differ(&carry) {
-                Ok(carry)
-            } else {
-                Err(refused(alloc, "two files of the call have one name"))
-            }
+impl<'a> Worded<'a> for Carry<'a> {
+    ghost Call = { CarryCall };
+
+    ghost app = { carry_app };
+
+    ghost call = { carry_call };
+
+    ghost lawful = { lawful_carry };
+
+    ghost holds = { λ c. Unit {0} };
+
+    #[tactic(auto, unfolding(crate::specs::Calls::Carry::carry_app, crate::proofs::Described::on_descriptions))]
+    fn description() -> Description<'static, 'static>
+        ensures { IsDescribed carry_app result }
+    {
+        CARRY
+    }
+
+    fn of_matches(alloc: Global, matches: &ArgMatches<'a>) -> Result<Carry<'a>, NoCall> {
+        let carry = carry_in(matches);
+        if files_differ(&carry) {
+            Ok(carry)
+        } else {
+            Err(equal_names(alloc))
         }
-        Err(error) => Err(explained(alloc, error)),
     }
 }
 
@@ -123,12 +137,8 @@ impl<'c> ih_frame::Command for Carry<'c> {
 
     fn names(&self) -> InputNames<'_> {
         InputNames {
-            instance: self.ward,
-            solution: Some(self.plan),
-            older: None,
-            journal: None,
             next: Some(self.next),
-            are_said: true,
+            ..said_names(self.ward, Some(self.plan))
         }
     }
 

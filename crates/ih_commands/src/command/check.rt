@@ -1,16 +1,18 @@
 //! The command `check`: its description for `clap`, its values and what it comes to.
 
-ghost use Rattle.std.specs.Prelude.{◌≡◌, map, string_bytes};
+ghost use Rattle.std.specs.Prelude.{◌≡◌};
 ghost use Rattle.clap.specs.Words.{found_of, rows_of};
-ghost use Rattle.ih_arguments.specs.{Explaining.IsRead, Matches.HasFiles, Matches.call_by};
-ghost use Rattle.ih_commands.specs.Calls.Check.{IsChecked, check_app, check_call, check_in, check_inputs, lawful_check};
+ghost use Rattle.ih_commands.specs.Calls.Check.{CheckCall, IsChecked, check_app, check_call, check_in, check_inputs};
+ghost use Rattle.ih_commands.specs.Calls.Check.{lawful_check};
+ghost use Rattle.ih_commands.specs.Calls.Worded.{IsDescribed};
 
 use crate::command::bound::judged_status;
-use crate::command::common::{INSTANCE, SOLUTION};
+use crate::command::calls::Worded;
+use crate::command::common::{INSTANCE, SOLUTION, said_names};
 use clap::ArgMatches;
 use ih_arguments::arguments::Description;
-use ih_arguments::explaining::{NoCall, explained};
-use ih_arguments::matches::{matched, text_of};
+use ih_arguments::explaining::NoCall;
+use ih_arguments::matches::text_of;
 use ih_frame::Outcome;
 use ih_inputs::{InputNames, Inputs};
 use ih_validate::{bill, report};
@@ -37,7 +39,6 @@ pub const CHECK: Description<'static, 'static> = Description {
 
 // The values of `check`.
 fn check_in<'a>(matches: &ArgMatches<'a>) -> Check<'a>
-    requires { HasFiles (rows_of (found_of matches.now)) }
     ensures { check_call result ≡ check_in (rows_of (found_of matches.now)) }
 {
     Check {
@@ -46,14 +47,26 @@ fn check_in<'a>(matches: &ArgMatches<'a>) -> Check<'a>
     }
 }
 
-// Reads the words of `check`.
-pub(crate) fn read_check<'a>(alloc: Global, words: &'a [String]) -> Result<Check<'a>, NoCall>
-    ensures { IsRead check_call (call_by check_app lawful_check (map string_bytes words.entry.now)) check_app
-        (map string_bytes words.entry.now) result }
-{
-    match matched(alloc, &CHECK, words) {
-        Ok(matches) => Ok(check_in(&matches)),
-        Err(error) => Err(explained(alloc, error)),
+impl<'a> Worded<'a> for Check<'a> {
+    ghost Call = { CheckCall };
+
+    ghost app = { check_app };
+
+    ghost call = { check_call };
+
+    ghost lawful = { lawful_check };
+
+    ghost holds = { λ c. Unit {0} };
+
+    #[tactic(auto, unfolding(crate::specs::Calls::Check::check_app, crate::proofs::Described::on_descriptions))]
+    fn description() -> Description<'static, 'static>
+        ensures { IsDescribed check_app result }
+    {
+        CHECK
+    }
+
+    fn of_matches(_alloc: Global, matches: &ArgMatches<'a>) -> Result<Check<'a>, NoCall> {
+        Ok(check_in(matches))
     }
 }
 
@@ -65,14 +78,7 @@ impl<'c> ih_frame::Command for Check<'c> {
     ghost comes_to = { λ c. IsChecked };
 
     fn names(&self) -> InputNames<'_> {
-        InputNames {
-            instance: self.instance,
-            solution: Some(self.solution),
-            older: None,
-            journal: None,
-            next: None,
-            are_said: true,
-        }
+        said_names(self.instance, Some(self.solution))
     }
 
     fn outcome<'a, R: Threads + Wait + Sync>(

@@ -1,28 +1,30 @@
 //! The command `improve`: its description for `clap`, its values and when they are lawful.
 
-ghost use Rattle.std.specs.Prelude.{◌≡◌, ◌&&◌, ◌||◌, not, false, true, ◌*◌, IfOk, codes, is_some, map, nat_le, option_map, option_to_list, string_bytes, unwrap_or, ◌∷◌, ◌++◌};
+ghost use Rattle.std.specs.Prelude.{◌≡◌, ◌&&◌, ◌||◌, ◌*◌, ◌∷◌, ◌++◌, codes, false, is_some, map, nat_le, not};
+ghost use Rattle.std.specs.Prelude.{option_map, option_to_list, true, unwrap_or};
 ghost use Rattle.clap.specs.Words.{found_of, rows_of};
-ghost use Rattle.ih_arguments.specs.{Distinct.all_differ, Matches.call_by};
+ghost use Rattle.ih_arguments.specs.{Distinct.all_differ};
 ghost use Rattle.ih_arguments.specs.{Matches.IsNumberIfGiven, Matches.number_if_given};
 ghost use Rattle.ih_arguments.specs.{Matches.texts_at, Start.freezes_a_file, Start.start_call};
-ghost use Rattle.ih_commands.specs.Calls.Improve.{AreOptionsWithin, HasImprove, IsLawfulCall, are_settings_lawful};
-ghost use Rattle.ih_commands.specs.Calls.Improve.{are_names_apart, improve_app, improve_call, improve_in, lawful_improve};
+ghost use Rattle.ih_commands.specs.Calls.Improve.{AreOptionsWithin, HasImprove, ImproveCall, IsLawfulCall};
+ghost use Rattle.ih_commands.specs.Calls.Improve.{are_names_apart, are_settings_lawful, improve_app, improve_call};
+ghost use Rattle.ih_commands.specs.Calls.Improve.{improve_in, lawful_improve};
 ghost use Rattle.ih_commands.specs.Calls.Improve.{are_options_apart, filled_start_in, length_of};
 ghost use Rattle.ih_commands.specs.Calls.Improve.{default_rounds, keep_in, keeps_a_file};
 ghost use Rattle.ih_improve.specs.declared.settings.TheConstants.{MAX_KEEP};
 ghost use Rattle.ih_commands.specs.Pacing.{attempts_of};
-ghost use Rattle.ih_arguments.specs.Explaining.{IsRead};
+ghost use Rattle.ih_commands.specs.Calls.Worded.{IsDescribed};
 
+use crate::command::calls::Worded;
 use crate::command::common::INSTANCE;
 use crate::pacing::{Length, MAX_CALL_ATTEMPTS, MAX_CALL_ROUNDS, MAX_SECONDS, Pace};
 use clap::ArgMatches;
 use ih_arguments::argument;
 use ih_arguments::arguments::{Argument, Description, Kind};
-use ih_arguments::explaining::{NoCall, explained, refused};
+use ih_arguments::explaining::{NoCall, refused};
 use ih_arguments::file_names::all_differ;
 use ih_arguments::matches::{
-    any_number_if_given, flag_of, is_given, matched, number_if_given, optional_text_of, text_of,
-    texts_of,
+    any_number_if_given, flag_of, is_given, number_if_given, optional_text_of, text_of, texts_of,
 };
 use ih_arguments::start::{FILL, FREEZE, START, Start, freezes_a_file, start_in, takes_a_file};
 use ih_improve::{Given, MAX_KEEP};
@@ -347,20 +349,29 @@ fn fault_in(matches: &ArgMatches, improve: &Improve) -> Option<&'static str>
     }
 }
 
-// Reads the words of `improve`.
-pub(crate) fn read_improve<'a>(alloc: Global, words: &'a [String]) -> Result<Improve<'a>, NoCall>
-    ensures read { IsRead improve_call (call_by improve_app lawful_improve (map string_bytes words.entry.now))
-        improve_app (map string_bytes words.entry.now) result }
-    ensures lawful { IfOk result (λ i. IsLawfulCall (improve_call i)) }
-{
-    match matched(alloc, &IMPROVE, words) {
-        Ok(matches) => {
-            let improve = improve_in(&matches, texts_of(alloc, &matches, "pin")?);
-            match fault_in(&matches, &improve) {
-                None => Ok(improve),
-                Some(fault) => Err(refused(alloc, fault)),
-            }
+impl<'a> Worded<'a> for Improve<'a> {
+    ghost Call = { ImproveCall };
+
+    ghost app = { improve_app };
+
+    ghost call = { improve_call };
+
+    ghost lawful = { lawful_improve };
+
+    ghost holds = { λ i. IsLawfulCall (improve_call i) };
+
+    #[tactic(auto, unfolding(crate::specs::Calls::Improve::improve_app, crate::proofs::Described::on_descriptions))]
+    fn description() -> Description<'static, 'static>
+        ensures { IsDescribed improve_app result }
+    {
+        IMPROVE
+    }
+
+    fn of_matches(alloc: Global, matches: &ArgMatches<'a>) -> Result<Improve<'a>, NoCall> {
+        let improve = improve_in(matches, texts_of(alloc, matches, "pin")?);
+        match fault_in(matches, &improve) {
+            None => Ok(improve),
+            Some(fault) => Err(refused(alloc, fault)),
         }
-        Err(error) => Err(explained(alloc, error)),
     }
 }

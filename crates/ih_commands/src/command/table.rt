@@ -1,22 +1,24 @@
 //! The command `table`: its description for `clap`, its values and what it comes to.
 
-ghost use Rattle.std.specs.Prelude.{◌≡◌, IfSome, codes, is_some, map, not, option_and_then, option_map, string_bytes};
+ghost use Rattle.std.specs.Prelude.{◌≡◌, IfSome, codes, is_some, not, option_and_then, option_map};
 ghost use Rattle.clap.specs.Words.{first_of, found_of, rows_of};
 ghost use Rattle.jiff.specs.Words.{date_parts};
-ghost use Rattle.ih_arguments.specs.{Distinct.all_differ, Explaining.IsNoHelp, Explaining.IsRead, Matches.call_by};
+ghost use Rattle.ih_arguments.specs.{Distinct.all_differ, Explaining.IsNoHelp};
 ghost use Rattle.ih_commands.specs.Calls.Days.{date_in};
-ghost use Rattle.ih_commands.specs.Calls.Table.{HasTableNames, IsTabled, has_dates, has_table_words, lawful_table};
+ghost use Rattle.ih_commands.specs.Calls.Table.{IsTabled, TableCall, has_dates, has_table_words, lawful_table};
 ghost use Rattle.ih_commands.specs.Calls.Table.{needs_dates, subject_at, subject_in, table_app, table_call, table_files};
 ghost use Rattle.ih_commands.specs.Calls.Table.{table_in, table_inputs};
+ghost use Rattle.ih_commands.specs.Calls.Worded.{IsDescribed};
 
-use crate::command::common::{INSTANCE, SOLUTION};
+use crate::command::calls::Worded;
+use crate::command::common::{INSTANCE, SOLUTION, equal_names, said_names};
 use crate::command::days::{FROM, first_day, no_day, refused_day};
 use clap::ArgMatches;
 use ih_arguments::argument;
 use ih_arguments::arguments::{Argument, Description, Kind};
-use ih_arguments::explaining::{NoCall, explained, refused};
+use ih_arguments::explaining::{NoCall, refused};
 use ih_arguments::file_names::names_differ;
-use ih_arguments::matches::{matched, optional_text_of, text_of};
+use ih_arguments::matches::{optional_text_of, text_of};
 use ih_endings::Role;
 use ih_frame::Outcome;
 use ih_inputs::{InputNames, Inputs};
@@ -85,7 +87,6 @@ fn subject_of(matches: &ArgMatches) -> Option<Subject>
 
 // The values of `table`.
 fn table_in<'a>(matches: &ArgMatches<'a>) -> Table<'a>
-    requires { HasTableNames (rows_of (found_of matches.now)) }
     ensures { table_call result ≡ table_in (rows_of (found_of matches.now)) }
 {
     Table {
@@ -152,23 +153,33 @@ fn refused_words(alloc: Global, matches: &ArgMatches, table: &Table) -> Option<N
     }
 }
 
-// Reads the words of `table`.
-pub(crate) fn read_table<'a>(alloc: Global, words: &'a [String]) -> Result<Table<'a>, NoCall>
-    ensures { IsRead table_call (call_by table_app lawful_table (map string_bytes words.entry.now)) table_app
-        (map string_bytes words.entry.now) result }
-{
-    match matched(alloc, &TABLE, words) {
-        Ok(matches) => {
-            let table = table_in(&matches);
-            if let Some(fault) = refused_words(alloc, &matches, &table) {
-                Err(fault)
-            } else if files_differ(&table) {
-                Ok(table)
-            } else {
-                Err(refused(alloc, "two files of the call have one name"))
-            }
+impl<'a> Worded<'a> for Table<'a> {
+    ghost Call = { TableCall };
+
+    ghost app = { table_app };
+
+    ghost call = { table_call };
+
+    ghost lawful = { lawful_table };
+
+    ghost holds = { λ t. Unit {0} };
+
+    #[tactic(auto, unfolding(crate::specs::Calls::Table::table_app, crate::proofs::Described::on_descriptions))]
+    fn description() -> Description<'static, 'static>
+        ensures { IsDescribed table_app result }
+    {
+        TABLE
+    }
+
+    fn of_matches(alloc: Global, matches: &ArgMatches<'a>) -> Result<Table<'a>, NoCall> {
+        let table = table_in(matches);
+        if let Some(fault) = refused_words(alloc, matches, &table) {
+            Err(fault)
+        } else if files_differ(&table) {
+            Ok(table)
+        } else {
+            Err(equal_names(alloc))
         }
-        Err(error) => Err(explained(alloc, error)),
     }
 }
 
@@ -180,14 +191,7 @@ impl<'t> ih_frame::Command for Table<'t> {
     ghost comes_to = { λ t. IsTabled (table_call t) };
 
     fn names(&self) -> InputNames<'_> {
-        InputNames {
-            instance: self.instance,
-            solution: Some(self.solution),
-            older: None,
-            journal: None,
-            next: None,
-            are_said: true,
-        }
+        said_names(self.instance, Some(self.solution))
     }
 
     fn outcome<'a, R: Threads + Wait + Sync>(

@@ -1,19 +1,21 @@
 //! The command `view`: its description for `clap`, its values and what it comes to.
 
-ghost use Rattle.std.specs.Prelude.{◌≡◌, map, string_bytes};
+ghost use Rattle.std.specs.Prelude.{◌≡◌};
 ghost use Rattle.clap.specs.Words.{found_of, rows_of};
-ghost use Rattle.ih_arguments.specs.{Distinct.all_differ, Explaining.IsRead, Matches.call_by};
-ghost use Rattle.ih_commands.specs.Calls.View.{HasViewNames, IsViewed, lawful_view, view_app, view_call, view_files};
+ghost use Rattle.ih_arguments.specs.Distinct.{all_differ};
+ghost use Rattle.ih_commands.specs.Calls.View.{IsViewed, ViewCall, lawful_view, view_app, view_call, view_files};
 ghost use Rattle.ih_commands.specs.Calls.View.{view_in, view_inputs};
+ghost use Rattle.ih_commands.specs.Calls.Worded.{IsDescribed};
 
-use crate::command::common::{INSTANCE, SOLUTION};
+use crate::command::calls::Worded;
+use crate::command::common::{INSTANCE, SOLUTION, equal_names, said_names};
 use crate::command::days::{FROM, first_day, no_day, refused_day};
 use clap::ArgMatches;
 use ih_arguments::argument;
 use ih_arguments::arguments::{Argument, Description, Kind};
-use ih_arguments::explaining::{NoCall, explained, refused};
+use ih_arguments::explaining::NoCall;
 use ih_arguments::file_names::all_differ;
-use ih_arguments::matches::{matched, optional_text_of, text_of};
+use ih_arguments::matches::{optional_text_of, text_of};
 use ih_endings::Role;
 use ih_frame::Outcome;
 use ih_inputs::{InputNames, Inputs};
@@ -87,7 +89,6 @@ pub const VIEW: Description<'static, 'static> = Description {
 
 // The values of `view`.
 fn view_in<'a>(matches: &ArgMatches<'a>) -> View<'a>
-    requires { HasViewNames (rows_of (found_of matches.now)) }
     ensures { view_call result ≡ view_in (rows_of (found_of matches.now)) }
 {
     View {
@@ -116,23 +117,33 @@ fn names_differ(view: &View) -> bool
     }
 }
 
-// Reads the words of `view`.
-pub(crate) fn read_view<'a>(alloc: Global, words: &'a [String]) -> Result<View<'a>, NoCall>
-    ensures { IsRead view_call (call_by view_app lawful_view (map string_bytes words.entry.now)) view_app
-        (map string_bytes words.entry.now) result }
-{
-    match matched(alloc, &VIEW, words) {
-        Ok(matches) => {
-            let view = view_in(&matches);
-            if let Some(word) = no_day(&matches, &view.from) {
-                Err(refused_day(alloc, word))
-            } else if names_differ(&view) {
-                Ok(view)
-            } else {
-                Err(refused(alloc, "two files of the call have one name"))
-            }
+impl<'a> Worded<'a> for View<'a> {
+    ghost Call = { ViewCall };
+
+    ghost app = { view_app };
+
+    ghost call = { view_call };
+
+    ghost lawful = { lawful_view };
+
+    ghost holds = { λ v. Unit {0} };
+
+    #[tactic(auto, unfolding(crate::specs::Calls::View::view_app, crate::proofs::Described::on_descriptions))]
+    fn description() -> Description<'static, 'static>
+        ensures { IsDescribed view_app result }
+    {
+        VIEW
+    }
+
+    fn of_matches(alloc: Global, matches: &ArgMatches<'a>) -> Result<View<'a>, NoCall> {
+        let view = view_in(matches);
+        if let Some(word) = no_day(matches, &view.from) {
+            Err(refused_day(alloc, word))
+        } else if names_differ(&view) {
+            Ok(view)
+        } else {
+            Err(equal_names(alloc))
         }
-        Err(error) => Err(explained(alloc, error)),
     }
 }
 
@@ -145,12 +156,8 @@ impl<'v> ih_frame::Command for View<'v> {
 
     fn names(&self) -> InputNames<'_> {
         InputNames {
-            instance: self.instance,
-            solution: Some(self.solution),
             older: self.since,
-            journal: None,
-            next: None,
-            are_said: true,
+            ..said_names(self.instance, Some(self.solution))
         }
     }
 

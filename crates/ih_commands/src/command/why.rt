@@ -1,20 +1,23 @@
 //! The command `why`: its description for `clap`, its values and what it comes to.
 
-ghost use Rattle.std.specs.Prelude.{◌≡◌, ◌≤◌, ◌++◌, IfOk, map, string_bytes};
+ghost use Rattle.std.specs.Prelude.{◌≡◌, ◌≤◌, ◌++◌, IfOk, codes};
 ghost use Rattle.clap.specs.Words.{found_of, rows_of};
 ghost use Rattle.ih_plan.specs.Timetable.{IsPlanOf};
-ghost use Rattle.ih_arguments.specs.{Explaining.IsRead, Matches.call_by};
-ghost use Rattle.ih_commands.specs.Calls.Why.{AreCauses, HasFewToAsk, HasWhy, IsExplained, explanation, lawful_why};
+ghost use Rattle.ih_plan.specs.declared.limits.TheConstants.{MAX_WORKERS};
+ghost use Rattle.ih_arguments.specs.Matches.{IsNumberIfGiven};
+ghost use Rattle.ih_commands.specs.Calls.Why.{AreCauses, HasFewToAsk, IsExplained, WhyCall, explanation, lawful_why};
 ghost use Rattle.ih_commands.specs.Calls.Why.{nothing_text, plan_text, says_nothing, why_app, why_call, why_in};
 ghost use Rattle.ih_commands.specs.Calls.Why.{why_inputs, why_text};
+ghost use Rattle.ih_commands.specs.Calls.Worded.{IsDescribed};
 
 use crate::command::bound::judged_status;
-use crate::command::common::{DEFAULT_WORKERS, INSTANCE, WORKERS};
+use crate::command::calls::Worded;
+use crate::command::common::{DEFAULT_WORKERS, INSTANCE, WORKERS, said_names};
 use clap::ArgMatches;
 use ih_arguments::argument;
 use ih_arguments::arguments::{Argument, Description, Kind};
-use ih_arguments::explaining::{NoCall, explained};
-use ih_arguments::matches::{matched, number_if_given, optional_text_of, text_of};
+use ih_arguments::explaining::NoCall;
+use ih_arguments::matches::{number_if_given, optional_text_of, text_of};
 use ih_frame::Outcome;
 use ih_inputs::{InputNames, Inputs};
 use ih_mends::mends;
@@ -56,7 +59,7 @@ pub const WHY: Description<'static, 'static> = Description {
 
 // The values of `why`.
 fn why_in<'a>(matches: &ArgMatches<'a>) -> Why<'a>
-    requires { HasWhy (rows_of (found_of matches.now)) }
+    requires { IsNumberIfGiven 1 MAX_WORKERS (codes "workers") (rows_of (found_of matches.now)) }
     ensures value { why_call result ≡ why_in (rows_of (found_of matches.now)) }
     ensures few { HasFewToAsk result }
 {
@@ -67,15 +70,26 @@ fn why_in<'a>(matches: &ArgMatches<'a>) -> Why<'a>
     }
 }
 
-// Reads the words of `why`.
-pub(crate) fn read_why<'a>(alloc: Global, words: &'a [String]) -> Result<Why<'a>, NoCall>
-    ensures read { IsRead why_call (call_by why_app lawful_why (map string_bytes words.entry.now)) why_app
-        (map string_bytes words.entry.now) result }
-    ensures lawful { IfOk result HasFewToAsk }
-{
-    match matched(alloc, &WHY, words) {
-        Ok(matches) => Ok(why_in(&matches)),
-        Err(error) => Err(explained(alloc, error)),
+impl<'a> Worded<'a> for Why<'a> {
+    ghost Call = { WhyCall };
+
+    ghost app = { why_app };
+
+    ghost call = { why_call };
+
+    ghost lawful = { lawful_why };
+
+    ghost holds = { HasFewToAsk };
+
+    #[tactic(auto, unfolding(crate::specs::Calls::Why::why_app, crate::proofs::Described::on_descriptions))]
+    fn description() -> Description<'static, 'static>
+        ensures { IsDescribed why_app result }
+    {
+        WHY
+    }
+
+    fn of_matches(_alloc: Global, matches: &ArgMatches<'a>) -> Result<Why<'a>, NoCall> {
+        Ok(why_in(matches))
     }
 }
 
@@ -167,14 +181,7 @@ impl<'w> ih_frame::Command for Why<'w> {
     ghost comes_to = { λ w. IsExplained (why_call w) };
 
     fn names(&self) -> InputNames<'_> {
-        InputNames {
-            instance: self.instance,
-            solution: self.solution,
-            older: None,
-            journal: None,
-            next: None,
-            are_said: true,
-        }
+        said_names(self.instance, self.solution)
     }
 
     fn outcome<'a, R: Threads + Wait + Sync>(

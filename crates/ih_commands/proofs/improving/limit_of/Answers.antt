@@ -1,4 +1,3 @@
-use Rattle.std.proofs.Common.{refl}
 use Rattle.ih_bound.proofs.HowFar.{gap-true}
 use Rattle.ih_commands.proofs.improving.limit_of.Goals as goal
 

@@ -4,4 +4,4 @@ use Rattle.ih_commands.proofs.command.why.why_in.Goals as goal
 
 pub returns-clause-few : goal.returns-clause-few
 returns-clause-few c =
-    rw (c.unwrap_or.ensures, c.number_if_given.ensures) (workers-within (rows_of (found_of c.args.matches.now)) c.requires.workers)
+    rw (c.unwrap_or.ensures, c.number_if_given.ensures) (workers-within (rows_of (found_of c.args.matches.now)) c.requires)
