@@ -5,7 +5,7 @@ ghost use Rattle.ih_tables.specs.Sizes.{patient_count};
 ghost use Rattle.ih_plan.specs.{Timetable.IsPlacement, Series.AreMoves};
 ghost use Rattle.ih_proposals.specs.NewStays.{IsNewStay};
 
-use crate::new_stays::{NewStay, marks_but};
+use crate::new_stays::{NewStay, carers_of};
 use crate::place::find_place_on;
 use crate::situation::Situation;
 use crate::theatres::surgery_cost;
@@ -54,7 +54,7 @@ fn rough_cost(here: &Situation<'_>, stay: NewStay, attempt: &Chain) -> i64
         .day
         .0
         .saturating_sub(here.inst.patient(patient).surgery_release_day);
-    let nurses = marks_but(here, stay, None).count_ones();
+    let nurses = carers_of(here, stay).once.count_ones();
     surgery_cost(here, stay, attempt)
         .saturating_add(weights[6].saturating_mul(i64::from(delay)))
         .saturating_add(weights[2].saturating_mul(i64::from(nurses)))

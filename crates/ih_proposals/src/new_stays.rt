@@ -46,20 +46,42 @@ fn mark_of(nurse: NurseNo) -> u64 {
     1u64 << (nurse.0 % 64)
 }
 
-/// The marks of the nurses who care for the patient, as nurses are before the attempt is made, but for one shift.
-pub fn marks_but(here: &Situation<'_>, stay: NewStay, but: Option<Shift>) -> u64
-    requires { IsNewStay here.now.inst.now.draft stay }
-{
-    let mut marks = 0;
-    for k in 3 * stay.at.day.0..3 * end_of(here.inst, stay.patient, stay.at) {
-        let shift = Shift(k);
-        if but != Some(shift) {
-            if let Some(nurse) = here.nurse(stay.at.room, shift) {
-                marks |= mark_of(nurse);
-            }
+/// Who cares for a patient over a stay, by the nurses' marks.
+#[derive(Clone, Copy)]
+pub struct Carers {
+    /// Who is there in a shift or more.
+    pub once: u64,
+    /// Who is there in two or more.
+    pub twice: u64,
+}
+
+impl Carers {
+    // The same with a nurse in one shift more.
+    fn with(self, nurse: NurseNo) -> Carers {
+        let mark = mark_of(nurse);
+        Carers {
+            once: self.once | mark,
+            twice: self.twice | self.once & mark,
         }
     }
-    marks
+
+    /// The marks of those who are there without one shift of a nurse.
+    pub fn marks_but(self, nurse: NurseNo) -> u64 {
+        self.once & !(mark_of(nurse) & !self.twice)
+    }
+}
+
+/// Who cares for the patient over the stay, as nurses are before the attempt is made.
+pub fn carers_of(here: &Situation<'_>, stay: NewStay) -> Carers
+    requires { IsNewStay here.now.inst.now.draft stay }
+{
+    let mut carers = Carers { once: 0, twice: 0 };
+    for k in 3 * stay.at.day.0..3 * end_of(here.inst, stay.patient, stay.at) {
+        if let Some(nurse) = here.nurse(stay.at.room, Shift(k)) {
+            carers = carers.with(nurse);
+        }
+    }
+    carers
 }
 
 /// What a nurse in a shift of the stay costs the patient: a skill that is too low, and one nurse more where the marks

@@ -2,11 +2,11 @@
 
 ghost use Rattle.std.specs.Prelude.{◌<◌, IfSome};
 ghost use Rattle.ih_tables.specs.Sizes.{nurse_count, shift_count};
-ghost use Rattle.ih_plan.specs.{Expand.IsMoveOf, Series.AreMoves};
+ghost use Rattle.ih_plan.specs.{Series.AreMoves};
 ghost use Rattle.ih_proposals.specs.NewStays.{IsNewStay};
 
 use crate::cheapest_nurse::value_of;
-use crate::new_stays::{NewStay, cost_of_nurse, marks_but, new_stay};
+use crate::new_stays::{Carers, NewStay, carers_of, cost_of_nurse, new_stay};
 use crate::nurses::{count_working, working_at};
 use crate::situation::Situation;
 use crate::stays::cyclic;
@@ -62,26 +62,27 @@ fn cheaper_nurse(
     if best == own { None } else { Some(best) }
 }
 
-// A cheaper nurse in a shift of the stay, where the one there is overloaded, less skilled than the patient needs, or
-// there for the patient alone.
+// A cheaper nurse in a shift of the stay in place of its own, where that one is overloaded, less skilled than the
+// patient needs, or there for the patient alone.
 fn repair_shift(
     here: &Situation<'_>,
     words: &mut RandomWords,
     stay: NewStay,
     shift: Shift,
-) -> Option<Move>
+    own: NurseNo,
+    carers: Carers,
+) -> Option<NurseNo>
     requires stay { IsNewStay here.now.inst.now.draft stay }
     requires shift { shift.0 < shift_count here.now.inst.now.draft }
-    ensures { IfSome result (IsMoveOf here.now.inst.now.draft) }
+    requires own { own.0 < nurse_count here.now.inst.now.draft }
+    ensures { IfSome result (λ n. n.0 < nurse_count here.now.inst.now.draft) }
 {
-    let own = here.nurse(stay.at.room, shift)?;
-    let marks = marks_but(here, stay, Some(shift));
+    let marks = carers.marks_but(own);
     let own_cost = cost_of_nurse(here, stay, shift, marks, own);
     if own_cost == 0 && !is_overloaded(here, own, shift) {
         return None;
     }
-    let nurse = cheaper_nurse(here, words, stay, shift, own, own_cost, marks)?;
-    Some(Move::Nurse(stay.at.room, shift, nurse))
+    cheaper_nurse(here, words, stay, shift, own, own_cost, marks)
 }
 
 // Adds a cheaper nurse, where there is one, in each shift of the stay whose nurse is overloaded, less skilled than
@@ -91,12 +92,17 @@ fn repair_stay(here: &Situation<'_>, words: &mut RandomWords, stay: NewStay, att
     requires moves { AreMoves here.now.inst.now.draft attempt.old }
     ensures { AreMoves here.now.inst.now.draft attempt.new }
 {
+    let room = stay.at.room;
+    let carers = carers_of(here, stay);
     for k in 3 * stay.at.day.0..3 * end_of(here.inst, stay.patient, stay.at) {
         if attempt.is_full() {
             return;
         }
-        let found = repair_shift(here, words, stay, Shift(k));
-        attempt.add_found(here.inst, found);
+        if let Some(own) = here.nurse(room, Shift(k)) {
+            if let Some(nurse) = repair_shift(here, words, stay, Shift(k), own, carers) {
+                attempt.add(here.inst, Move::Nurse(room, Shift(k), nurse));
+            }
+        }
     }
 }
 

@@ -1,7 +1,7 @@
 //! What is tried next.
 
 ghost use Rattle.std.specs.Prelude.{◌≡◌, ◌≤◌, length};
-ghost use Rattle.ih_plan.specs.{Series.AreMoves};
+ghost use Rattle.ih_plan.specs.{Expand.IsMoveOf, Series.AreMoves};
 
 use crate::cheapest_nurse::cheapest_nurse;
 use crate::ejection::ejection;
@@ -18,7 +18,31 @@ use crate::swap::swap;
 use crate::words::RandomWords;
 use ih_costs::Ledgers;
 use ih_moves::Chain;
+use ih_plan::Move;
 use ih_tables::Instance;
+
+// Whether the move changes nurses.
+fn is_of_nurses(mv: &Move) -> bool {
+    match mv {
+        Move::Nurse(_, _, _) | Move::NurseRun(_, _, _, _) | Move::SwapNurses(_, _, _) => true,
+        _ => false,
+    }
+}
+
+// A draw that looks at nothing: the first of three that changes nurses, else the third.
+fn blind_nurses(inst: &Instance, words: &mut RandomWords) -> Move
+    ensures { IsMoveOf inst.now.draft result }
+{
+    let first = words.blind(inst);
+    if is_of_nurses(&first) {
+        return first;
+    }
+    let second = words.blind(inst);
+    if is_of_nurses(&second) {
+        return second;
+    }
+    words.blind(inst)
+}
 
 // An attempt of a kind.
 fn propose_kind(here: &Situation<'_>, kind: Kind, words: &mut RandomWords, attempt: &mut Chain)
@@ -28,6 +52,7 @@ fn propose_kind(here: &Situation<'_>, kind: Kind, words: &mut RandomWords, attem
     let inst = here.inst;
     match kind {
         Kind::Blind => attempt.add(inst, words.blind(inst)),
+        Kind::BlindNurses => attempt.add(inst, blind_nurses(inst, words)),
         Kind::Place => {
             let found = place(here, words, attempt);
             attempt.add_found(inst, found);
@@ -60,7 +85,7 @@ pub fn propose(
 {
     let here = Situation::new(inst, hard, ledgers);
     attempt.begin(inst);
-    let kind = kind_of(words.below(words_of_kinds(inst)));
+    let kind = kind_of(inst, words.below(words_of_kinds(inst)));
     propose_kind(&here, kind, words, attempt);
     // For the proof alone.
     let _few = attempt.len();

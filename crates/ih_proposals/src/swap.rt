@@ -1,11 +1,11 @@
-//! A patient in the place of another of the same gender, who takes the first one's place or is left out.
+//! A patient in the place of another of the same gender, who takes the first one's place or gets another.
 
 ghost use Rattle.std.specs.Prelude.{◌<◌, IfSome};
 ghost use Rattle.ih_tables.specs.Sizes.{patient_count};
 ghost use Rattle.ih_plan.specs.{Timetable.IsPlacement, Expand.IsMoveOf, Series.AreMoves};
 
 use crate::best_place::settle;
-use crate::situation::{Situation, is_small};
+use crate::situation::Situation;
 use crate::stays::{cyclic, draw_patient};
 use crate::words::RandomWords;
 use ih_moves::Chain;
@@ -24,15 +24,12 @@ fn is_allowed(inst: &Instance, patient_no: PatientNo, at: Placement) -> bool
     !outside_window(patient, Some(at)) && !is_incompatible(patient, at.room)
 }
 
-// Whether a patient who isn't admitted may take the place of another: the other stays as long or longer, and is optional
-// or, on small wards, may get another place.
+// Whether a patient who isn't admitted may take the place of another: the other stays as long or longer.
 fn may_replace(inst: &Instance, patient: PatientNo, other_no: PatientNo) -> bool
     requires patient { patient.0 < patient_count inst.now.draft }
     requires other { other_no.0 < patient_count inst.now.draft }
 {
-    let other = inst.patient(other_no);
-    (is_small(inst) || !other.mandatory)
-        && inst.patient(patient).length_of_stay <= other.length_of_stay
+    inst.patient(patient).length_of_stay <= inst.patient(other_no).length_of_stay
 }
 
 // Whether two admitted patients may exchange their placements: both stay equally long.
@@ -95,10 +92,9 @@ fn move_away(_inst: &Instance, patient: PatientNo, to: Option<Placement>) -> Mov
     }
 }
 
-/// Two moves, for a patient by a random word and the first other patient, cyclically from a random one on, whose place
-/// the patient may take: both exchange their placements, or the other is left out where the patient isn't admitted. On
-/// small wards that one then gets the cheapest of a few places, where there is one; else, if it is mandatory, there is no
-/// move.
+/// Two or three moves, for a patient by a random word and the first other patient, cyclically from a random one on, whose
+/// place the patient may take: both exchange their placements, or, where the patient isn't admitted, the other gets the
+/// cheapest of a few places. Where there is none it is left out or, if it is mandatory, there is no move.
 pub fn swap(here: &Situation<'_>, words: &mut RandomWords, attempt: &mut Chain)
     requires { AreMoves here.now.inst.now.draft attempt.old }
     ensures { AreMoves here.now.inst.now.draft attempt.new }
@@ -115,7 +111,7 @@ pub fn swap(here: &Situation<'_>, words: &mut RandomWords, attempt: &mut Chain)
         if let Some(theirs) = place_of_other(here, p, mine, q) {
             attempt.add(inst, move_away(inst, q, mine));
             attempt.add(inst, Move::Place(p, theirs));
-            if mine.is_none() && is_small(inst) && !settle(here, words, q, attempt) {
+            if mine.is_none() && !settle(here, words, q, attempt) {
                 attempt.begin(inst);
             }
             return;
