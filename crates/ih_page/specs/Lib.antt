@@ -7,3 +7,4 @@ pub mod Waits
 pub mod Escapes
 pub mod Page
 pub mod Laws
+pub mod Objects

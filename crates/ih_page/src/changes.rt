@@ -7,6 +7,7 @@ ghost use Rattle.ih_plan.specs.Timetable.{IsPlanOf};
 ghost use Rattle.ih_page.specs.Changes.{changes_data};
 ghost use Rattle.ih_page.specs.Changes.{patients_data, room_data, rooms_data, shifts_data, was_data};
 
+use crate::objects::Object;
 use crate::timetables::{bill_value, nurse_value, stay_value};
 use ih_changes::{has_another, is_changed};
 use ih_plan::Plan;
@@ -92,8 +93,9 @@ pub fn changes_value(alloc: Global, both: &Compared<'_>) -> Result<Value, AllocE
     ensures { IfOk result
         (λ v. view v ≡ changes_data both.now.inst.now.draft both.now.plan.now both.now.older.now) }
 {
-    let bill = bill_value(alloc, both.inst, both.older)?;
-    let patients = patient_values(alloc, both)?;
-    let shifts = room_values(alloc, both)?;
-    json!(in alloc; {"bill": bill, "patients": patients, "shifts": shifts})
+    let mut object = Object::new(alloc);
+    object.put("bill", bill_value(alloc, both.inst, both.older)?)?;
+    object.put_all("patients", patient_values(alloc, both)?)?;
+    object.put_all("shifts", room_values(alloc, both)?)?;
+    Ok(object.value())
 }

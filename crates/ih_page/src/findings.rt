@@ -7,6 +7,7 @@ ghost use Rattle.ih_plan.specs.Cells.{IsCellOf, cell_at, part_at};
 ghost use Rattle.ih_page.specs.Findings.{IsLine, amount_at, count_in, finding_data, findings_data, findings_of, line_data};
 ghost use Rattle.ih_page.specs.Findings.{number_in, spot_of};
 
+use crate::objects::Object;
 use ih_costs::Ledgers;
 use ih_footprint::Numbering;
 use ih_tables::{Bill, Cell};
@@ -121,9 +122,12 @@ pub fn findings_value(
     for i in 0..8 {
         costs.push(line_value(alloc, cells, ledgers, Line::Cost(i))?)?;
     }
+    let mut object = Object::new(alloc);
+    object.put_all("costs", costs)?;
     let mut rules = Vec::new(alloc);
     for i in 0..9 {
         rules.push(line_value(alloc, cells, ledgers, Line::Rule(i))?)?;
     }
-    json!(in alloc; {"costs": costs, "rules": rules})
+    object.put_all("rules", rules)?;
+    Ok(object.value())
 }

@@ -7,7 +7,8 @@ ghost use Rattle.ih_page.specs.InstanceData.{persons_data, places_data, room_dat
 ghost use Rattle.ih_page.specs.InstanceData.{window_data, worked_data};
 ghost use Rattle.ih_solution.specs.Solution.{number_data};
 
-use crate::values::{Shown, values};
+use crate::objects::Object;
+use crate::values::Shown;
 use ih_tables::{
     Draft, List, Name, Nurse, Occupant, Patient, Room, RoomNo, Surgeon, Theatre, WorkedShift,
 };
@@ -26,7 +27,10 @@ impl Shown for Room {
     ghost json = { room_data };
 
     fn value(&self, alloc: Global) -> Result<Value, AllocError> {
-        json!(in alloc; {"capacity": self.capacity, "id": self.id.as_str()})
+        let mut object = Object::new(alloc);
+        object.show("capacity", &self.capacity)?;
+        object.show("id", &self.id)?;
+        Ok(object.value())
     }
 }
 
@@ -34,8 +38,10 @@ impl Shown for Theatre {
     ghost json = { theatre_data };
 
     fn value(&self, alloc: Global) -> Result<Value, AllocError> {
-        let minutes = values(alloc, self.availability.as_slice())?;
-        json!(in alloc; {"id": self.id.as_str(), "minutes": minutes})
+        let mut object = Object::new(alloc);
+        object.show("id", &self.id)?;
+        object.show_all("minutes", self.availability.as_slice())?;
+        Ok(object.value())
     }
 }
 
@@ -43,8 +49,10 @@ impl Shown for Surgeon {
     ghost json = { surgeon_data };
 
     fn value(&self, alloc: Global) -> Result<Value, AllocError> {
-        let minutes = values(alloc, self.max_surgery_time.as_slice())?;
-        json!(in alloc; {"id": self.id.as_str(), "minutes": minutes})
+        let mut object = Object::new(alloc);
+        object.show("id", &self.id)?;
+        object.show_all("minutes", self.max_surgery_time.as_slice())?;
+        Ok(object.value())
     }
 }
 
@@ -60,8 +68,11 @@ impl Shown for Nurse {
     ghost json = { nurse_data };
 
     fn value(&self, alloc: Global) -> Result<Value, AllocError> {
-        let shifts = values(alloc, self.working_shifts.as_slice())?;
-        json!(in alloc; {"id": self.id.as_str(), "shifts": shifts, "skill": self.skill_level})
+        let mut object = Object::new(alloc);
+        object.show("id", &self.id)?;
+        object.show_all("shifts", self.working_shifts.as_slice())?;
+        object.show("skill", &self.skill_level)?;
+        Ok(object.value())
     }
 }
 
@@ -81,16 +92,14 @@ fn person_value(alloc: Global, person: &Person<'_>) -> Result<Value, AllocError>
     ensures { let x = person.now in IfOk result
         (λ v. view v ≡ person_data x.age x.gender.now x.id.now x.loads.now x.skills.now x.stay) }
 {
-    let loads = values(alloc, person.loads.as_slice())?;
-    let skills = values(alloc, person.skills.as_slice())?;
-    json!(in alloc; {
-        "age": person.age,
-        "gender": person.gender.as_str(),
-        "id": person.id.as_str(),
-        "loads": loads,
-        "skills": skills,
-        "stay": person.stay,
-    })
+    let mut object = Object::new(alloc);
+    object.show("age", &person.age)?;
+    object.show("gender", person.gender)?;
+    object.show("id", person.id)?;
+    object.show_all("loads", person.loads.as_slice())?;
+    object.show_all("skills", person.skills.as_slice())?;
+    object.show("stay", &person.stay)?;
+    Ok(object.value())
 }
 
 impl Shown for Occupant {
@@ -105,8 +114,10 @@ impl Shown for Occupant {
             skills: &self.skill_level_required,
             stay: self.length_of_stay,
         };
-        let value = person_value(alloc, &person)?;
-        json!(in alloc; {"person": value, "room": self.room_id.0})
+        let mut object = Object::new(alloc);
+        object.put("person", person_value(alloc, &person)?)?;
+        object.show("room", &self.room_id)?;
+        Ok(object.value())
     }
 }
 
@@ -114,11 +125,11 @@ impl Shown for Occupant {
 fn window_value(alloc: Global, patient: &Patient) -> Result<Value, AllocError>
     ensures { IfOk result (λ v. view v ≡ window_data patient.now) }
 {
-    json!(in alloc; {
-        "due": patient.surgery_due_day,
-        "mandatory": patient.mandatory,
-        "release": patient.surgery_release_day,
-    })
+    let mut object = Object::new(alloc);
+    object.show("due", &patient.surgery_due_day)?;
+    object.show("mandatory", &patient.mandatory)?;
+    object.show("release", &patient.surgery_release_day)?;
+    Ok(object.value())
 }
 
 impl Shown for Patient {
@@ -133,16 +144,13 @@ impl Shown for Patient {
             skills: &self.skill_level_required,
             stay: self.length_of_stay,
         };
-        let value = person_value(alloc, &person)?;
-        let unsuited = values(alloc, self.incompatible_room_ids.as_slice())?;
-        let window = window_value(alloc, self)?;
-        json!(in alloc; {
-            "minutes": self.surgery_duration,
-            "person": value,
-            "surgeon": self.surgeon_id.0,
-            "unsuited": unsuited,
-            "window": window,
-        })
+        let mut object = Object::new(alloc);
+        object.show("minutes", &self.surgery_duration)?;
+        object.put("person", person_value(alloc, &person)?)?;
+        object.show("surgeon", &self.surgeon_id.0)?;
+        object.show_all("unsuited", self.incompatible_room_ids.as_slice())?;
+        object.put("window", window_value(alloc, self)?)?;
+        Ok(object.value())
     }
 }
 
@@ -150,27 +158,30 @@ impl Shown for Patient {
 fn persons_value(alloc: Global, draft: &Draft) -> Result<Value, AllocError>
     ensures { IfOk result (λ v. view v ≡ persons_data draft.now) }
 {
-    let occupants = values(alloc, draft.occupants.as_slice())?;
-    let patients = values(alloc, draft.patients.as_slice())?;
-    json!(in alloc; {"occupants": occupants, "patients": patients})
+    let mut object = Object::new(alloc);
+    object.show_all("occupants", draft.occupants.as_slice())?;
+    object.show_all("patients", draft.patients.as_slice())?;
+    Ok(object.value())
 }
 
 #[tactic(auto, unfolding(crate::specs::InstanceData::places_data))]
 fn places_value(alloc: Global, draft: &Draft) -> Result<Value, AllocError>
     ensures { IfOk result (λ v. view v ≡ places_data draft.now) }
 {
-    let rooms = values(alloc, draft.rooms.as_slice())?;
-    let theatres = values(alloc, draft.operating_theaters.as_slice())?;
-    json!(in alloc; {"rooms": rooms, "theatres": theatres})
+    let mut object = Object::new(alloc);
+    object.show_all("rooms", draft.rooms.as_slice())?;
+    object.show_all("theatres", draft.operating_theaters.as_slice())?;
+    Ok(object.value())
 }
 
 #[tactic(auto, unfolding(crate::specs::InstanceData::staff_data))]
 fn staff_value(alloc: Global, draft: &Draft) -> Result<Value, AllocError>
     ensures { IfOk result (λ v. view v ≡ staff_data draft.now) }
 {
-    let nurses = values(alloc, draft.nurses.as_slice())?;
-    let surgeons = values(alloc, draft.surgeons.as_slice())?;
-    json!(in alloc; {"nurses": nurses, "surgeons": surgeons})
+    let mut object = Object::new(alloc);
+    object.show_all("nurses", draft.nurses.as_slice())?;
+    object.show_all("surgeons", draft.surgeons.as_slice())?;
+    Ok(object.value())
 }
 
 /// All data of an instance.
@@ -178,19 +189,13 @@ fn staff_value(alloc: Global, draft: &Draft) -> Result<Value, AllocError>
 pub fn instance_value(alloc: Global, draft: &Draft) -> Result<Value, AllocError>
     ensures { IfOk result (λ v. view v ≡ instance_data draft.now) }
 {
-    let ages = values(alloc, draft.age_groups.as_slice())?;
-    let persons = persons_value(alloc, draft)?;
-    let places = places_value(alloc, draft)?;
-    let shifts = values(alloc, draft.shift_types.as_slice())?;
-    let staff = staff_value(alloc, draft)?;
-    let weights = values(alloc, draft.weights.w.as_slice())?;
-    json!(in alloc; {
-        "ages": ages,
-        "days": draft.days,
-        "persons": persons,
-        "places": places,
-        "shifts": shifts,
-        "staff": staff,
-        "weights": weights,
-    })
+    let mut object = Object::new(alloc);
+    object.show_all("ages", draft.age_groups.as_slice())?;
+    object.show("days", &draft.days)?;
+    object.put("persons", persons_value(alloc, draft)?)?;
+    object.put("places", places_value(alloc, draft)?)?;
+    object.show_all("shifts", draft.shift_types.as_slice())?;
+    object.put("staff", staff_value(alloc, draft)?)?;
+    object.show_all("weights", draft.weights.w.as_slice())?;
+    Ok(object.value())
 }

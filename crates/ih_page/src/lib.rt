@@ -6,6 +6,7 @@ mod escapes;
 mod findings;
 mod instances;
 mod laws;
+mod objects;
 mod pages;
 mod template;
 mod timetables;

@@ -12,6 +12,7 @@ use crate::changes::{Compared, changes_value};
 use crate::escapes::{Put, put, put_escaped};
 use crate::findings::findings_value;
 use crate::instances::instance_value;
+use crate::objects::Object;
 use crate::template::{HEAD, TAIL};
 use crate::timetables::{bill_value, care_values, stay_values};
 use crate::waits::wait_values;
@@ -47,13 +48,12 @@ fn name_value(alloc: Global, name: Option<&str>) -> Result<Value, AllocError>
 fn heading_value(alloc: Global, heading: &Heading<'_>) -> Result<Value, AllocError>
     ensures { IfOk result (λ v. view v ≡ heading_data (heading_texts heading.now)) }
 {
-    let older = name_value(alloc, heading.older)?;
-    json!(in alloc; {
-        "instance": heading.instance,
-        "older": older,
-        "solution": heading.solution,
-        "title": heading.title,
-    })
+    let mut object = Object::new(alloc);
+    object.put("instance", Value::try_from_str(alloc, heading.instance)?)?;
+    object.put("older", name_value(alloc, heading.older)?)?;
+    object.put("solution", Value::try_from_str(alloc, heading.solution)?)?;
+    object.put("title", Value::try_from_str(alloc, heading.title)?)?;
+    Ok(object.value())
 }
 
 // The year, the month and the day, or null.
@@ -102,10 +102,11 @@ fn plan_value(alloc: Global, inst: &Instance, plan: &Plan) -> Result<Value, Allo
     requires { IsPlanOf inst.now.draft plan.now }
     ensures { IfOk result (λ v. view v ≡ plan_data inst.now.draft plan.now) }
 {
-    let care = care_values(alloc, inst, plan)?;
-    let stays = stay_values(alloc, inst, plan)?;
-    let waits = wait_values(alloc, inst, plan)?;
-    json!(in alloc; {"care": care, "stays": stays, "waits": waits})
+    let mut object = Object::new(alloc);
+    object.put_all("care", care_values(alloc, inst, plan)?)?;
+    object.put_all("stays", stay_values(alloc, inst, plan)?)?;
+    object.put_all("waits", wait_values(alloc, inst, plan)?)?;
+    Ok(object.value())
 }
 
 // All that the page shows.
@@ -123,22 +124,15 @@ fn page_value(
     ensures { IfOk result (λ v. view v
         ≡ page_data (heading_texts heading.now) inst.now.draft first (option_map (λ o. o.now) older.entry) plan.now) }
 {
-    let bill = bill_value(alloc, inst, plan)?;
-    let changes = changes_since(alloc, inst, plan, older)?;
-    let findings = found_value(alloc, inst, plan)?;
-    let first = date_value(alloc, first)?;
-    let heading = heading_value(alloc, heading)?;
-    let instance = instance_value(alloc, &inst.draft)?;
-    let timetable = plan_value(alloc, inst, plan)?;
-    json!(in alloc; {
-        "bill": bill,
-        "changes": changes,
-        "findings": findings,
-        "first": first,
-        "heading": heading,
-        "instance": instance,
-        "plan": timetable,
-    })
+    let mut object = Object::new(alloc);
+    object.put("bill", bill_value(alloc, inst, plan)?)?;
+    object.put("changes", changes_since(alloc, inst, plan, older)?)?;
+    object.put("findings", found_value(alloc, inst, plan)?)?;
+    object.put("first", date_value(alloc, first)?)?;
+    object.put("heading", heading_value(alloc, heading)?)?;
+    object.put("instance", instance_value(alloc, &inst.draft)?)?;
+    object.put("plan", plan_value(alloc, inst, plan)?)?;
+    Ok(object.value())
 }
 
 // All that the page shows, as a text of JSON.

@@ -9,7 +9,7 @@ ghost use Rattle.ih_solution.specs.Solution.{number_data};
 ghost use Rattle.ih_page.specs.TimetableData.{bill_data, care_data, nurses_data, place_data, room_data, stays_data};
 ghost use Rattle.ih_page.specs.Values.{option_data};
 
-use crate::values::values;
+use crate::objects::Object;
 use ih_plan::{Placement, Plan};
 use ih_tables::{Bill, Instance, PatientNo, RoomNo, Shift};
 use ih_validate::bill;
@@ -105,10 +105,11 @@ fn value_of(alloc: Global, inst: &Instance, bill: &Bill) -> Result<Value, AllocE
     requires { IsWithin (10 ^ 11) bill.now }
     ensures { IfOk result (λ v. view v ≡ bill_data inst.now.draft.weights bill.now) }
 {
-    let costs = values(alloc, bill.s.as_slice())?;
-    let rules = values(alloc, bill.v.as_slice())?;
-    let cost = bill.cost(inst.weights()).unsigned_abs();
-    json!(in alloc; {"cost": cost, "costs": costs, "rules": rules})
+    let mut object = Object::new(alloc);
+    object.show("cost", &bill.cost(inst.weights()))?;
+    object.show_all("costs", bill.s.as_slice())?;
+    object.show_all("rules", bill.v.as_slice())?;
+    Ok(object.value())
 }
 
 /// The bill of a timetable.

@@ -1,9 +1,9 @@
 //! Things as JSON values, and lists of them.
 
 ghost use Rattle.std.specs.Prelude.{◌≡◌, IfOk, List as Items, ℕ, map, unsigned_abs};
-ghost use Rattle.serde_json.specs.{Data.Data, Data.string, View.view};
+ghost use Rattle.serde_json.specs.{Data.Data, Data.boolean, Data.string, View.view};
 ghost use Rattle.ih_solution.specs.Solution.{number_data};
-ghost use Rattle.ih_page.specs.Values.{amount_data};
+ghost use Rattle.ih_page.specs.Values.{amount_data, option_data};
 
 use ih_tables::Name;
 use serde_json::Value;
@@ -19,6 +19,25 @@ pub trait Shown {
 
 impl Shown for u32 {
     ghost json = { number_data };
+
+    fn value(&self, _alloc: Global) -> Result<Value, AllocError> {
+        Ok(Value::from(*self))
+    }
+}
+
+impl Shown for Option<u32> {
+    ghost json = { option_data number_data };
+
+    fn value(&self, _alloc: Global) -> Result<Value, AllocError> {
+        match *self {
+            None => Ok(Value::Null),
+            Some(number) => Ok(Value::from(number)),
+        }
+    }
+}
+
+impl Shown for bool {
+    ghost json = { boolean };
 
     fn value(&self, _alloc: Global) -> Result<Value, AllocError> {
         Ok(Value::from(*self))

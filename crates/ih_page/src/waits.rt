@@ -7,6 +7,7 @@ ghost use Rattle.ih_plan.specs.Timetable.{IsPlanOf};
 ghost use Rattle.ih_waiting.specs.ScorerUse.{IsForAdmissions};
 ghost use Rattle.ih_page.specs.Waits.{admission_data, could_data, wait_data, waits_data};
 
+use crate::objects::Object;
 use crate::timetables::stay_value;
 use ih_fill::Scorer;
 use ih_plan::{MAX_HARD, Placement, Plan};
@@ -26,10 +27,11 @@ fn admission_value(
     requires { IsWithin (10 ^ 11) change.now }
     ensures { IfOk result (λ v. view v ≡ admission_data inst.now.draft place change.now) }
 {
-    let broken = broken_more(change);
-    let cost = change.cost(inst.weights());
-    let place = stay_value(alloc, Some(place))?;
-    json!(in alloc; {"broken": broken, "cost": cost, "place": place})
+    let mut object = Object::new(alloc);
+    object.put("broken", Value::from(broken_more(change)))?;
+    object.put("cost", Value::from(change.cost(inst.weights())))?;
+    object.put("place", stay_value(alloc, Some(place))?)?;
+    Ok(object.value())
 }
 
 // The cheapest admission of a patient, or null.
