@@ -273,7 +273,7 @@ const amiss = once(() => new Set(broken.flatMap(({ cell, of: [row, day] }) => ["
 const isBroken = (person) => amiss().has(person);
 
 // What is shown now. It stands behind the '#' of the address, so that it can be kept and sent.
-const view = { tab: "board", days: 7, day: 0, find: "", rule: 0 };
+const view = { tab: "board", days: 7, day: 0, find: "", rule: 0, cost: 0 };
 function readView() {
   const given = new URLSearchParams(location.hash.slice(1));
   view.tab = given.get("tab") || "board";
@@ -282,10 +282,11 @@ function readView() {
   view.day = Math.max(0, Math.min(data.days - 1, +(given.get("day") ?? today() ?? 0)));
   view.find = given.get("find") || "";
   view.rule = +(given.get("rule") || 0);
+  view.cost = +(given.get("cost") || 0);
 }
 function show(change) {
   Object.assign(view, change);
-  history.replaceState(null, "", "#" + new URLSearchParams({ tab: view.tab, days: view.days, day: view.day, ...(view.find ? { find: view.find } : {}) }));
+  history.replaceState(null, "", "#" + new URLSearchParams({ tab: view.tab, days: view.days, day: view.day, ...(view.find ? { find: view.find } : {}), ...(view.cost ? { cost: view.cost } : {}) }));
   draw();
 }
 const lastShown = () => Math.min(view.day + view.days, data.days);
@@ -512,8 +513,11 @@ function findingRow(found) {
 }
 const findingHead = () => make("thead", {}, make("tr", {}, make("th", { scope: "col" }, "What"), make("th", { scope: "col" }, "where"), make("th", { class: "n", scope: "col" }, "amount"), make("th", { class: "n", scope: "col" }, "points")));
 function drawCosts() {
-  const dearest = findings.filter((found) => found.points > 0).sort((one, other) => other.points - one.points).slice(0, 10);
-  return [make("h2", {}, "The ten dearest causes"), make("table", { class: "list" }, findingHead(), make("tbody", {}, dearest.map(findingRow)))];
+  const dearestOf = (list) => list.sort((one, other) => other.points - one.points);
+  const dearest = dearestOf(findings.filter((found) => found.points > 0)).slice(0, 10), all = dearestOf(findings.filter((found) => found.cost === view.cost - 1));
+  const choice = COSTS.map((name, cost) => data.costs[cost] === 0 ? null : [" ", make("button", { type: "button", "aria-pressed": String(view.cost === cost + 1), on: { click: () => show({ cost: view.cost === cost + 1 ? 0 : cost + 1 }) } }, `${name} (${number(data.costs[cost])})`)]);
+  return [make("h2", {}, "The ten dearest causes"), make("table", { class: "list" }, findingHead(), make("tbody", {}, dearest.map(findingRow))),
+    make("h2", { class: "sheet" }, "All causes of one number"), make("p", {}, choice), all.length === 0 ? null : make("table", sized("list", all.length, 4), findingHead(), bodies(all.map(findingRow)))];
 }
 function drawReport() {
   return [broken.length === 0 ? null : [make("h2", { class: "warn" }, "What breaks rules"), make("table", { class: "list" }, findingHead(), make("tbody", {}, broken.map(findingRow)))],
