@@ -1,5 +1,5 @@
 -- The rules of a command's description: what an argument adds to them, and what the rule at a place requires.
-use Rattle.std.proofs.Common.{◌≡◌, ◌∙◌, ap, ap₂, ℕ, ◌∷◌, Some, false, true, refl, rules, List, IsTrue, codes}
+use Rattle.std.proofs.Common.{◌≡◌, ◌∙◌, ap, ap₂, ℕ, ◌∷◌, Some, false, true, refl, rules, List, IsTrue}
 use Rattle.std.specs.List.{list_all}
 use Rattle.std.specs.Prelude.{slice_get}
 use Rattle.clap.specs.Built.{AddsArg}
@@ -7,9 +7,8 @@ use Rattle.clap.specs.Words.{AddsSubcommand, App, Row, Rule, Text, app_of, rule_
 use Rattle.clap.specs.declared.builder.arg.Arg.{Arg}
 use Rattle.clap.specs.declared.builder.command.Command.{Command}
 use Rattle.clap.proofs.SimpleLemmas.{plain_fields}
-use Rattle.ih_arguments.specs.Arguments.{app_by, is_plain_by, named, named_number, numbered_option, optional_between, optional_number}
+use Rattle.ih_arguments.specs.Arguments.{app_by, is_plain_by, named_number, numbered_option, optional_between, optional_number}
 use Rattle.ih_arguments.specs.declared.arguments.Description.{Description}
-use Rattle.ih_arguments.specs.Matches.{HasFiles, HasText}
 use Rattle.ih_arguments.specs.Rules.{Requires, RequiresNumber, TakesNumber}
 
 -- an argument adds its rule
@@ -23,18 +22,6 @@ pub adds_command : {old sub new : Command} {above below : App} → app_of old �
 adds_command {old} {sub} {new} first second plain adds =
     adds.shape (plain_fields sub (ap (λ (a : App). a.top.is_plain) second ∙ plain)).globals
     ∙ ap₂ with_subcommand first (ap (λ (a : App). a.top) second)
-
-pub requires_name : {app : App} {k : ℕ} {id : Text} → slice_get app.top.rules k ≡ Some (named id)
-    → Requires app k (named id)
-requires_name place = record { place = place; required = refl; action = refl; range = refl }
-
--- the two files of a command that begins with them are there
-pub has_files : {app : App} {rows : List Row} → ((k : ℕ) (rule : Rule) → Requires app k rule → HasText rule.id rows)
-    → Requires app 0 (named (codes "INSTANCE")) → Requires app 1 (named (codes "SOLUTION")) → HasFiles rows
-has_files texts first second = record {
-  instance = texts 0 (named (codes "INSTANCE")) first;
-  solution = texts 1 (named (codes "SOLUTION")) second;
-}
 
 pub requires_named_number : {app : App} {k : ℕ} {id : Text} → slice_get app.top.rules k ≡ Some (named_number id)
     → RequiresNumber app k (named_number id) 0 18446744073709551615

@@ -57,14 +57,3 @@ HasNumber low high id rows = (t : Text) × (one_of id rows ≡ Some t) × IsUnsi
 -- the number of an argument, where one was given, is from low to high
 abbrev pub IsNumberIfGiven : ℕ → ℕ → Text → List Row → Type 0
 IsNumberIfGiven low high id rows = (t : Text) → one_of id rows ≡ Some t → IsUnsignedIn low high t
-
--- each of three file names is there
-pub record HasNames (rows : List Row) (a b c : Text) : Type 0 where
-  pub first : HasText a rows
-  pub second : HasText b rows
-  pub third : HasText c rows
-
--- the names of an instance's file and of a solution's are there
-pub record HasFiles (rows : List Row) : Type 0 where
-  pub instance : HasText (codes "INSTANCE") rows
-  pub solution : HasText (codes "SOLUTION") rows
