@@ -13,7 +13,7 @@ use crate::walkers::Walker;
 use ih_changes::{has_another, is_changed};
 use ih_moves::Chain;
 use ih_plan::{Move, Plan, nurse_at};
-use ih_proposals::{RandomWords, propose, repair};
+use ih_proposals::{FreeRooms, RandomWords, propose, repair};
 use ih_tables::{Bill, Instance, PatientNo, RoomNo, Shift};
 use std::alloc::{AllocError, Global};
 
@@ -30,6 +30,8 @@ pub(crate) struct ImproveWorker<'a> {
     pub(crate) walker: Walker<'a>,
     pub(crate) words: RandomWords,
     pub(crate) moves: Chain,
+    // The rooms with a bed where the walker stands.
+    pub(crate) free: FreeRooms,
     // Whether it once took everybody out.
     pub(crate) is_emptied: bool,
 }
@@ -77,10 +79,13 @@ impl<'a> ImproveWorker<'a> {
         ensures instance { IfOk result (λ w. w.walker.instance ≡ inst.entry.now.draft) }
         ensures stands { IfOk result (λ w. w.walker.now ≡ plan.now) }
     {
+        let walker = Walker::new(alloc, inst, plan, bill, keep)?;
+        let free = FreeRooms::new(alloc, inst, walker.ledgers())?;
         Ok(ImproveWorker {
-            walker: Walker::new(alloc, inst, plan, bill, keep)?,
+            walker,
             words: RandomWords::new(0, 0, 0),
             moves: Chain::new(),
+            free,
             is_emptied: false,
         })
     }
@@ -114,6 +119,7 @@ impl<'a> ImproveWorker<'a> {
         if self.takes_over(leg) {
             self.walker.go_to_best(leg.settings().keep);
         }
+        self.free.follow_all(leg.instance(), self.walker.ledgers());
     }
 
     // Makes the moves of the attempt, priced as one, if they change the score and the points of changes by at most `most`.
@@ -137,6 +143,7 @@ impl<'a> ImproveWorker<'a> {
         let whole = self.walker.whole_price(keep, moves, score, most);
         if whole <= most {
             self.walker.make_moves(settings, moves, &price);
+            self.free.follow(inst, self.walker.ledgers(), moves);
             return false;
         }
         whole.saturating_sub(most) <= pace.reach
@@ -170,6 +177,7 @@ impl<'a> ImproveWorker<'a> {
             inst,
             pace.hard,
             self.walker.ledgers(),
+            &self.free,
             &mut self.words,
             &mut self.moves,
         );

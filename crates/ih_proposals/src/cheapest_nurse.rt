@@ -22,7 +22,7 @@ pub fn value_of(here: &Situation<'_>, room: RoomNo, shift: Shift, nurse: NurseNo
     if here.nurse(room, shift) == Some(nurse) {
         return i64::MAX;
     }
-    here.score(
+    here.score_of_care(
         &here
             .ledgers
             .price_write(&Write::SetCare(room, shift, Some(nurse))),

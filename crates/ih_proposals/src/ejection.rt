@@ -9,7 +9,7 @@ use crate::clearing::{MOST_WITHDRAWN, clear};
 use crate::place::find_place;
 use crate::situation::Situation;
 use crate::stays::{draw_day, draw_patient};
-use crate::theatres::cheapest_theatre;
+use crate::theatres::cheapest_surgery;
 use crate::words::RandomWords;
 use ih_moves::Chain;
 use ih_plan::{Move, Placement};
@@ -36,7 +36,7 @@ fn draw_goal(
     if is_incompatible(here.inst.patient(patient), room) {
         return None;
     }
-    let theatre = cheapest_theatre(here, patient, day, words.below(theatres), attempt);
+    let theatre = cheapest_surgery(here, patient, day, words.below(theatres), attempt).theatre;
     Some(Placement { day, room, theatre })
 }
 

@@ -145,10 +145,10 @@ pub fn breaks_rule(inst: &Instance, ledgers: &Ledgers<'_>, patient: PatientNo) -
 
 /// The mend before, or a cheaper one that gives the patient another stay, from such a day on, or none. Which one it is,
 /// is free.
-pub fn mend_stay(
-    inst: &Instance,
+pub fn mend_stay<'a>(
+    inst: &'a Instance,
     hard: u32,
-    ledgers: &Ledgers<'_>,
+    ledgers: &'a Ledgers<'a>,
     before: Option<Mend>,
     patient: PatientNo,
     first: u32,
@@ -159,11 +159,7 @@ pub fn mend_stay(
     requires patient { patient.0 < patient_count inst.now.draft }
     ensures { IfSome result (IsMend inst.now.draft) }
 {
-    let here = Situation {
-        inst,
-        ledgers,
-        hard,
-    };
+    let here = Situation::new(inst, hard, ledgers, None);
     mend_from(&here, before, patient, first)
 }
 
@@ -179,10 +175,10 @@ fn is_covered(here: &Situation<'_>, room: RoomNo, shift: Shift) -> bool
 }
 
 /// The cheapest nurse for a room and shift that breaks a rule as it is. Which one it is, is free.
-pub fn mend_shift(
-    inst: &Instance,
+pub fn mend_shift<'a>(
+    inst: &'a Instance,
     hard: u32,
-    ledgers: &Ledgers<'_>,
+    ledgers: &'a Ledgers<'a>,
     room: RoomNo,
     shift: Shift,
 ) -> Option<Mend>
@@ -192,11 +188,7 @@ pub fn mend_shift(
     requires shift { shift.0 < shift_count inst.now.draft }
     ensures { IfSome result (IsMend inst.now.draft) }
 {
-    let here = Situation {
-        inst,
-        ledgers,
-        hard,
-    };
+    let here = Situation::new(inst, hard, ledgers, None);
     if is_covered(&here, room, shift) {
         return None;
     }

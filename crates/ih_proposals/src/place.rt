@@ -1,56 +1,82 @@
 //! A patient in a room that fits, and in the theatre that is cheapest there.
 
 ghost use Rattle.std.specs.Prelude.{◌<◌, IfSome};
-ghost use Rattle.ih_tables.specs.Sizes.{patient_count};
+ghost use Rattle.ih_tables.specs.Sizes.{patient_count, room_count, theatre_count};
 ghost use Rattle.ih_plan.specs.{Timetable.IsPlacement, Expand.IsMoveOf, Series.AreMoves};
-ghost use Rattle.ih_proposals.specs.NewStays.{IsNewStay};
 
-use crate::new_stays::NewStay;
+use crate::fitting::Fitting;
 use crate::situation::{Situation, is_small};
-use crate::stays::{draw_day, draw_patient, first_fit};
-use crate::theatres::{cheapest_theatre, surgery_cost};
+use crate::stays::{draw_day, draw_patient};
+use crate::theatres::cheapest_surgery;
 use crate::words::RandomWords;
 use ih_moves::Chain;
 use ih_plan::{Move, Placement};
-use ih_tables::{Day, PatientNo};
+use ih_tables::{Day, Instance, PatientNo, RoomNo};
 
-// Whether the patient may stay out, and that would be cheaper than the surgery. On large wards that isn't asked.
-fn is_better_out(here: &Situation<'_>, stay: NewStay, attempt: &Chain) -> bool
-    requires stay { IsNewStay here.now.inst.now.draft stay }
-    requires moves { AreMoves here.now.inst.now.draft attempt.now }
-{
-    is_small(here.inst)
-        && !here.inst.patient(stay.patient).mandatory
-        && here.inst.weights().w[7] < surgery_cost(here, stay, attempt)
+/// A placement, and what its surgery adds to the score.
+#[derive(Clone, Copy)]
+pub struct PricedPlace {
+    pub at: Placement,
+    pub surgery_cost: i64,
 }
 
-/// A placement of the patient from a day on, by random words: the first room that fits, beside those who are there once
-/// the attempt is made. None where the patient would better stay out.
-pub fn find_place_on(
+// Whether the patient may stay out, and that would be cheaper than surgery at this cost. On large wards that isn't asked.
+fn is_better_out(inst: &Instance, patient: PatientNo, surgery_cost: i64) -> bool
+    requires { patient.0 < patient_count inst.now.draft }
+{
+    is_small(inst) && !inst.patient(patient).mandatory && inst.weights().w[7] < surgery_cost
+}
+
+/// A placement of the patient in a room from a day on, in the theatre that is cheapest there, once the attempt is made.
+/// None where the patient would better stay out.
+pub fn place_in(
+    here: &Situation<'_>,
+    words: &mut RandomWords,
+    patient: PatientNo,
+    day: Day,
+    room: RoomNo,
+    attempt: &Chain,
+) -> Option<PricedPlace>
+    requires patient { patient.0 < patient_count here.now.inst.now.draft }
+    requires day { day.0 < here.now.inst.now.draft.days }
+    requires room { room.0 < room_count here.now.inst.now.draft }
+    requires theatres { 0 < theatre_count here.now.inst.now.draft }
+    requires moves { AreMoves here.now.inst.now.draft attempt.now }
+    ensures { IfSome result (λ place. IsPlacement here.now.inst.now.draft place.at) }
+{
+    let first = words.below(here.inst.theatres());
+    let surgery = cheapest_surgery(here, patient, day, first, attempt);
+    if is_better_out(here.inst, patient, surgery.cost) {
+        return None;
+    }
+    let theatre = surgery.theatre;
+    Some(PricedPlace {
+        at: Placement { day, room, theatre },
+        surgery_cost: surgery.cost,
+    })
+}
+
+// A placement of the patient from a day on, by random words: the first room that fits, beside those who are there once
+// the attempt is made. None where the patient would better stay out.
+fn find_place_on(
     here: &Situation<'_>,
     words: &mut RandomWords,
     patient: PatientNo,
     day: Day,
     attempt: &Chain,
-) -> Option<Placement>
+) -> Option<PricedPlace>
     requires patient { patient.0 < patient_count here.now.inst.now.draft }
     requires day { day.0 < here.now.inst.now.draft.days }
     requires moves { AreMoves here.now.inst.now.draft attempt.now }
-    ensures { IfSome result (IsPlacement here.now.inst.now.draft) }
+    ensures { IfSome result (λ place. IsPlacement here.now.inst.now.draft place.at) }
 {
-    let theatres = here.inst.theatres();
-    if theatres == 0 {
+    if here.inst.theatres() == 0 {
         return None;
     }
     let first = words.below(here.inst.rooms());
-    let room = first_fit(here, patient, day, first, attempt)?;
-    let theatre = cheapest_theatre(here, patient, day, words.below(theatres), attempt);
-    let at = Placement { day, room, theatre };
-    if is_better_out(here, NewStay { patient, at }, attempt) {
-        None
-    } else {
-        Some(at)
-    }
+    let mut rooms = Fitting::new(here, patient, day, first, attempt);
+    let room = rooms.next(here, patient, day, attempt)?;
+    place_in(here, words, patient, day, room, attempt)
 }
 
 /// Another placement of the patient, by random words: on the first of so many days of its window that has one.
@@ -67,8 +93,8 @@ pub fn find_place(
 {
     for _ in 0..tries {
         if let Some(day) = draw_day(here.inst, words, patient) {
-            if let Some(at) = find_place_on(here, words, patient, day, attempt) {
-                return Some(at);
+            if let Some(place) = find_place_on(here, words, patient, day, attempt) {
+                return Some(place.at);
             }
         }
     }

@@ -5,7 +5,9 @@ ghost use Rattle.ih_plan.specs.{Expand.IsMoveOf, Series.AreMoves};
 
 use crate::cheapest_nurse::cheapest_nurse;
 use crate::ejection::ejection;
+use crate::free_rooms::FreeRooms;
 use crate::kempe::kempe;
+use crate::merging::merge;
 use crate::mix::{Kind, kind_of, words_of_kinds};
 use crate::nurse_of_stay::nurse_of_stay;
 use crate::nurse_repair::repair_nurses;
@@ -70,11 +72,13 @@ fn propose_kind(here: &Situation<'_>, kind: Kind, words: &mut RandomWords, attem
 
 /// What is tried next at the timetable of the ledgers, in place of what the attempt held: moves in range, of a kind
 /// that a random word chooses by the kinds' shares; none where that kind finds nothing. `hard` is the weight of a
-/// broken rule, by which candidates are compared. Which moves it is, is free. It takes no memory.
+/// broken rule, by which candidates are compared; `free` tells which rooms have beds there. Which moves it is, is free.
+/// It takes no memory.
 pub fn propose(
     inst: &Instance,
     hard: u32,
     ledgers: &Ledgers<'_>,
+    free: &FreeRooms,
     words: &mut RandomWords,
     attempt: &mut Chain,
 )
@@ -83,20 +87,21 @@ pub fn propose(
     ensures moves { AreMoves inst.now.draft attempt.new }
     ensures few { length attempt.new ≤ 8 }
 {
-    let here = Situation::new(inst, hard, ledgers);
+    let here = Situation::new(inst, hard, ledgers, Some(free));
     attempt.begin(inst);
     let kind = kind_of(inst, words.below(words_of_kinds(inst)));
     propose_kind(&here, kind, words, attempt);
+    merge(inst, attempt);
     // For the proof alone.
     let _few = attempt.len();
 }
 
 /// Adds nurses to an attempt who are cheaper over the new stays of its patients. Answers whether it found any. Which ones
 /// it is, is free. It takes no memory.
-pub fn repair(
-    inst: &Instance,
+pub fn repair<'a>(
+    inst: &'a Instance,
     hard: u32,
-    ledgers: &Ledgers<'_>,
+    ledgers: &'a Ledgers<'a>,
     words: &mut RandomWords,
     attempt: &mut Chain,
 ) -> bool
@@ -106,7 +111,7 @@ pub fn repair(
     ensures moves { AreMoves inst.now.draft attempt.new }
     ensures few { length attempt.new ≤ 8 }
 {
-    let here = Situation::new(inst, hard, ledgers);
+    let here = Situation::new(inst, hard, ledgers, None);
     let before = attempt.len();
     repair_nurses(&here, words, attempt);
     before < attempt.len()

@@ -2,9 +2,14 @@
 
 ghost use Rattle.std.specs.Prelude.{◌≡◌, ◌≤◌};
 
+use crate::free_rooms::FreeRooms;
 use ih_costs::Ledgers;
 use ih_plan::{Placement, nurse_at};
 use ih_roomdays::RoomDays;
+use ih_tables::bill_numbers::{
+    CONTINUITY_OF_CARE, EXCESS_WORKLOAD, NURSE_PRESENCE, NURSE_SKILL, OPEN_THEATRE,
+    SURGEON_OVERRUN, SURGEON_TRANSFER, THEATRE_OVERRUN, UNCOVERED_ROOM,
+};
 use ih_tables::{Bill, Instance, NurseNo, PatientNo, RoomNo, Shift};
 use ih_theatres::Theatres;
 
@@ -22,6 +27,8 @@ pub struct Situation<'a> {
     pub inst: &'a Instance,
     pub ledgers: &'a Ledgers<'a>,
     pub hard: u32,
+    /// The rooms with a bed there, where they are kept.
+    pub free: Option<&'a FreeRooms>,
     pub ghost ledgers_fit: { ledgers.now.instance ≡ inst.now.draft },
     pub ghost hard_fits: { hard ≤ 1000000 },
 }
@@ -35,7 +42,12 @@ impl<'a> Situation<'a> {
     ghost use Rattle.ih_theatres.specs.Ledger.{IsLedgerOf as AreTheatresOf};
 
     /// The situation at the timetable of these ledgers.
-    pub fn new(inst: &'a Instance, hard: u32, ledgers: &'a Ledgers<'a>) -> Situation<'a>
+    pub fn new(
+        inst: &'a Instance,
+        hard: u32,
+        ledgers: &'a Ledgers<'a>,
+        free: Option<&'a FreeRooms>,
+    ) -> Situation<'a>
         requires instance { ledgers.now.instance ≡ inst.now.draft }
         requires hard { hard ≤ 1000000 }
         ensures { result.inst.now ≡ inst.now }
@@ -44,6 +56,7 @@ impl<'a> Situation<'a> {
             inst,
             ledgers,
             hard,
+            free,
         }
     }
 
@@ -91,5 +104,28 @@ impl<'a> Situation<'a> {
         ensures high { result <ℤ pos (10 ^ 18) }
     {
         self.inst.score_of(self.hard, bill)
+    }
+
+    /// The score of a change of nursing: its other numbers aren't looked at.
+    #[inline(always)]
+    pub fn score_of_care(&self, bill: &Bill) -> i64 {
+        let weights = &self.inst.weights().w;
+        let broken = bill.v[NURSE_PRESENCE].saturating_add(bill.v[UNCOVERED_ROOM]);
+        i64::from(self.hard)
+            .saturating_mul(broken)
+            .saturating_add(weights[NURSE_SKILL].saturating_mul(bill.s[NURSE_SKILL]))
+            .saturating_add(weights[CONTINUITY_OF_CARE].saturating_mul(bill.s[CONTINUITY_OF_CARE]))
+            .saturating_add(weights[EXCESS_WORKLOAD].saturating_mul(bill.s[EXCESS_WORKLOAD]))
+    }
+
+    /// The score of a change of surgery: its other numbers aren't looked at.
+    #[inline(always)]
+    pub fn score_of_surgery(&self, bill: &Bill) -> i64 {
+        let weights = &self.inst.weights().w;
+        let broken = bill.v[SURGEON_OVERRUN].saturating_add(bill.v[THEATRE_OVERRUN]);
+        i64::from(self.hard)
+            .saturating_mul(broken)
+            .saturating_add(weights[OPEN_THEATRE].saturating_mul(bill.s[OPEN_THEATRE]))
+            .saturating_add(weights[SURGEON_TRANSFER].saturating_mul(bill.s[SURGEON_TRANSFER]))
     }
 }

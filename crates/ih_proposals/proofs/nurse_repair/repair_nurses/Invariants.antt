@@ -1,5 +1,0 @@
-use Rattle.ih_plan.specs.Series.{AreMoves}
-use Rattle.ih_proposals.proofs.nurse_repair.repair_nurses.Given as goal
-
-abbrev pub invariant-loop-i : goal.invariant-loop-i
-invariant-loop-i l = AreMoves l.here.inst.now.draft l.attempt
