@@ -1,5 +1,5 @@
 -- An escaped text has none of the signs < > and &.
-use Rattle.std.proofs.Common.{◌≡◌, ◌∙◌, ℕ, zero, suc, refl, sym, Bool, true, false, List, [], ◌∷◌, ◌++◌, codes, length}
+use Rattle.std.proofs.Common.{◌≡◌, ◌∙◌, ℕ, arith, zero, suc, refl, sym, Bool, true, false, List, [], ◌∷◌, ◌++◌, codes, length}
 use Rattle.std.specs.Prelude.{◌≢◌, ◌==◌, if◌then◌else◌, Option, slice_index}
 use Rattle.std.specs.List.{AllByRecursion}
 use Rattle.std.proofs.lemmas.Bool.{eq-eqb}
@@ -33,24 +33,15 @@ apart b n e = λ same. (let no : true ≡ false = sym (eq-eqb b n same) ∙ e in
 plain : (b : ℕ) → (b == 60) ≡ false → (b == 62) ≡ false → (b == 38) ≡ false → IsInert b
 plain b h k l = (apart b 60 h, (apart b 62 k, apart b 38 l))
 
--- the name of a sign by its number
-named : (a b c d : ℕ) → IsInert a → IsInert b → IsInert c → IsInert d → AreInert (92 ∷ 117 ∷ a ∷ b ∷ c ∷ d ∷ [])
-named a b c d ha hb hc hd = (plain 92 refl refl refl, (plain 117 refl refl refl, (ha, (hb, (hc, (hd, tt))))))
-
-digit : (b : ℕ) → (b == 60) ≡ false → (b == 62) ≡ false → (b == 38) ≡ false → IsInert b
-digit = plain
-
 byte-inert : (b : ℕ) → AreInert (escaped_byte b)
 byte-inert b =
-    choose (b == 38) (codes "\\u0026") _ (named 48 48 50 54 (digit 48 refl refl refl) (digit 48 refl refl refl) (digit 50 refl refl refl) (digit 54 refl refl refl)) (λ h38.
-    choose (b == 60) (codes "\\u003c") _ (named 48 48 51 99 (digit 48 refl refl refl) (digit 48 refl refl refl) (digit 51 refl refl refl) (digit 99 refl refl refl)) (λ h60.
-    choose (b == 62) (codes "\\u003e") _ (named 48 48 51 101 (digit 48 refl refl refl) (digit 48 refl refl refl) (digit 51 refl refl refl) (digit 101 refl refl refl)) (λ h62.
+    choose (b == 38) (codes "\\u0026") _ (omega arith) (λ h38.
+    choose (b == 60) (codes "\\u003c") _ (omega arith) (λ h60.
+    choose (b == 62) (codes "\\u003e") _ (omega arith) (λ h62.
     (plain b h60 h62 h38, tt))))
 
 separator-inert : (last : ℕ) → AreInert (separator_name last)
-separator-inert last =
-    choose (last == 168) (codes "\\u2028") _ (named 50 48 50 56 (digit 50 refl refl refl) (digit 48 refl refl refl) (digit 50 refl refl refl) (digit 56 refl refl refl)) (λ h.
-    named 50 48 50 57 (digit 50 refl refl refl) (digit 48 refl refl refl) (digit 50 refl refl refl) (digit 57 refl refl refl))
+separator-inert last = choose (last == 168) (codes "\\u2028") (codes "\\u2029") (omega arith) (λ h. omega arith)
 
 at-inert : (text : List ℕ) (i : ℕ) → AreInert (escaped_at text i)
 unfolding escaped_at

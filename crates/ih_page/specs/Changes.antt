@@ -1,6 +1,6 @@
 -- What changed since an older timetable: the patients whose day, room or theatre differ, and the shifts in which a room
 -- has another nurse, each with what was.
-use Rattle.std.specs.Prelude.{ℕ, List, [], ◌∷◌, codes, map}
+use Rattle.std.specs.Prelude.{ℕ, List, codes, map}
 use Rattle.serde_json.specs.Data.{Data, object, no_members, member}
 use Rattle.ih_tables.specs.declared.drafts.Draft.{Draft}
 use Rattle.ih_tables.specs.Listed.{listed}
@@ -11,7 +11,7 @@ use Rattle.ih_plan.specs.Timetable.{Timetable, stay_of, care_of}
 use Rattle.ih_changes.specs.Changes.{has_another, is_changed}
 use Rattle.ih_solution.specs.Solution.{number_data, list_data}
 use Rattle.ih_page.specs.TimetableData.{bill_data, place_data}
-use Rattle.ih_page.specs.Values.{option_data}
+use Rattle.ih_page.specs.Values.{numbered_data, option_data}
 
 -- ---- patients
 
@@ -19,13 +19,13 @@ use Rattle.ih_page.specs.Values.{option_data}
 abbrev pub changed_patients : Draft → Timetable → Timetable → List ℕ
 changed_patients I O P = which_below (patient_count I) (is_changed O P)
 
--- a number and what was
-abbrev pub was_data : ℕ → Data → Data
-was_data n was = list_data (number_data n ∷ was ∷ [])
+-- patient p with the stay of the older timetable
+abbrev pub was_stay : Timetable → ℕ → Data
+was_stay O p = numbered_data p (option_data place_data (stay_of O p))
 
 -- these patients with their stays of the older timetable
 abbrev pub patients_data : Draft → Timetable → Timetable → List Data
-patients_data I O P = map (λ p. was_data p (option_data place_data (stay_of O p))) (changed_patients I O P)
+patients_data I O P = map (was_stay O) (changed_patients I O P)
 
 -- ---- nurses
 
@@ -33,12 +33,13 @@ patients_data I O P = map (λ p. was_data p (option_data place_data (stay_of O p
 abbrev pub changed_shifts : Draft → Timetable → Timetable → ℕ → List ℕ
 changed_shifts I O P r = which_below (shift_count I) (has_another O P r)
 
--- the shifts in which room r has another nurse, with the nurse of the older timetable
-abbrev pub shifts_data : Draft → Timetable → Timetable → ℕ → List Data
-shifts_data I O P r = map (λ k. was_data k (option_data number_data (care_of O r k))) (changed_shifts I O P r)
+-- shift k with room r's nurse of the older timetable
+abbrev pub was_nurse : Timetable → ℕ → ℕ → Data
+was_nurse O r k = numbered_data k (option_data number_data (care_of O r k))
 
+-- the shifts in which room r has another nurse, with the nurse of the older timetable
 unfoldable pub room_data : Draft → Timetable → Timetable → ℕ → Data
-room_data I O P r = list_data (shifts_data I O P r)
+room_data I O P r = list_data (map (was_nurse O r) (changed_shifts I O P r))
 
 -- for every room, the shifts in which it has another nurse, with the nurse of the older timetable
 abbrev pub rooms_data : Draft → Timetable → Timetable → List Data

@@ -1,6 +1,6 @@
 -- What breaks a rule or costs, and where: for each number of the bill the cells that have a part in it, each with its
 -- amount.
-use Rattle.std.specs.Prelude.{ℕ, ◌<◌, ℤ, ◌==◌, not, List, [], ◌∷◌, codes, map, slice_index}
+use Rattle.std.specs.Prelude.{ℕ, ◌<◌, ℤ, Bool, ◌==◌, not, List, [], ◌∷◌, codes, map, slice_index}
 use Rattle.serde_json.specs.Data.{Data, object, no_members, member}
 use Rattle.ih_tables.specs.declared.bills.Bill.{Bill}
 use Rattle.ih_tables.specs.declared.cells.Cell.{Cell}
@@ -47,20 +47,35 @@ spot_of (Care x) = record { kind = 6; row = x.0; column = 0 }
 abbrev pub amount_at : Draft → Timetable → Line → ℕ → ℕ
 amount_at I P l n = count_in (part_at I P (cell_at I n)) l
 
+-- it has any
+abbrev pub is_found : Draft → Timetable → Line → ℕ → Bool
+is_found I P l n = not (amount_at I P l n == 0)
+
 -- the cells that have any, rising
 abbrev pub findings_of : Draft → Timetable → Line → List ℕ
-findings_of I P l = which_below (cell_count I) (λ n. not (amount_at I P l n == 0))
+findings_of I P l = which_below (cell_count I) (is_found I P l)
 
 -- an amount and where it is
 abbrev pub finding_data : ℕ → Spot → Data
 finding_data amount s = numbers_data (amount ∷ s.kind ∷ s.row ∷ s.column ∷ [])
 
+abbrev pub finding_at : Draft → Timetable → Line → ℕ → Data
+finding_at I P l n = finding_data (amount_at I P l n) (spot_of (cell_at I n))
+
 -- the findings of a number of the bill
 unfoldable pub line_data : Draft → Timetable → Line → Data
-line_data I P l = list_data (map (λ n. finding_data (amount_at I P l n) (spot_of (cell_at I n))) (findings_of I P l))
+line_data I P l = list_data (map (finding_at I P l) (findings_of I P l))
+
+-- those of the costs below number n
+abbrev pub costs_data : Draft → Timetable → ℕ → List Data
+costs_data I P n = listed n (λ i. line_data I P (Cost i))
+
+-- those of the rules below number n
+abbrev pub rules_data : Draft → Timetable → ℕ → List Data
+rules_data I P n = listed n (λ i. line_data I P (Rule i))
 
 -- those of each number of the bill
 unfoldable pub findings_data : Draft → Timetable → Data
 findings_data I P = object
-    (member (codes "costs") (list_data (listed 8 (λ i. line_data I P (Cost i))))
-    (member (codes "rules") (list_data (listed 9 (λ i. line_data I P (Rule i)))) no_members))
+    (member (codes "costs") (list_data (costs_data I P 8))
+    (member (codes "rules") (list_data (rules_data I P 9)) no_members))

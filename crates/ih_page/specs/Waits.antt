@@ -1,5 +1,5 @@
 -- Who waits: the patients whom a timetable leaves out, each with the cheapest admission.
-use Rattle.std.specs.Prelude.{ℕ, Bool, is_none, List, [], ◌∷◌, codes, map}
+use Rattle.std.specs.Prelude.{ℕ, Bool, is_none, List, codes, map}
 use Rattle.serde_json.specs.Data.{Data, number, object, no_members, member}
 use Rattle.serde_json.specs.Find.{of_integer}
 use Rattle.ih_tables.specs.declared.bills.Bill.{Bill}
@@ -9,10 +9,10 @@ use Rattle.ih_tables.specs.Sizes.{patient_count}
 use Rattle.ih_plan.specs.declared.moves.Placement.{Placement}
 use Rattle.ih_plan.specs.Sums.{which_below}
 use Rattle.ih_plan.specs.Timetable.{Timetable, stay_of}
-use Rattle.ih_solution.specs.Solution.{number_data, list_data}
+use Rattle.ih_solution.specs.Solution.{number_data}
 use Rattle.ih_waiting.specs.Admissions.{broken_more, change_by, cheapest_admission}
 use Rattle.ih_page.specs.TimetableData.{place_data}
-use Rattle.ih_page.specs.Values.{option_data}
+use Rattle.ih_page.specs.Values.{numbered_data, option_data}
 
 -- where an admission puts a patient, how many units of rules more are broken, and what is added to the cost
 unfoldable pub admission_data : Draft → Placement → Bill → Data
@@ -26,7 +26,7 @@ abbrev pub could_data : Draft → Timetable → ℕ → Data
 could_data I P p = option_data (λ place. admission_data I place (change_by I P p place)) (cheapest_admission I P p)
 
 unfoldable pub wait_data : Draft → Timetable → ℕ → Data
-wait_data I P p = list_data (number_data p ∷ could_data I P p ∷ [])
+wait_data I P p = numbered_data p (could_data I P p)
 
 -- patient p isn't admitted
 abbrev pub is_out : Timetable → ℕ → Bool

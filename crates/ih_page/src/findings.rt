@@ -1,32 +1,34 @@
 //! What breaks rules or costs, and where, as JSON values.
 
-ghost use Rattle.std.specs.Prelude.{◌≡◌, IfOk, map, unsigned_abs};
+ghost use Rattle.std.specs.Prelude.{◌≡◌, ◌≤◌, IfOk, unsigned_abs};
 ghost use Rattle.serde_json.specs.View.{view};
 ghost use Rattle.ih_tables.specs.Sizes.{sizes_of};
-ghost use Rattle.ih_plan.specs.Cells.{IsCellOf, cell_at, part_at};
-ghost use Rattle.ih_page.specs.Findings.{IsLine, amount_at, count_in, finding_data, findings_data, findings_of, line_data};
-ghost use Rattle.ih_page.specs.Findings.{number_in, spot_of};
+ghost use Rattle.ih_plan.specs.Cells.{IsCellOf, part_at};
+ghost use Rattle.ih_solution.specs.Solution.{list_data};
+ghost use Rattle.ih_page.specs.Findings.{IsLine, costs_data, count_in, finding_data, findings_data, line_data, number_in};
+ghost use Rattle.ih_page.specs.Findings.{rules_data, spot_of};
 
 use crate::objects::Object;
+use crate::values::{Made, list_value, listed_value};
 use ih_costs::Ledgers;
 use ih_footprint::Numbering;
 use ih_tables::{Bill, Cell};
-use serde_json::{Value, json};
-use std::alloc::{AllocError, Global};
+use serde_json::Value;
+use std::alloc::Global;
 
 /// One of the nine rules or of the eight costs, by its place.
 #[derive(Clone, Copy)]
 pub enum Line {
-    Rule(usize),
-    Cost(usize),
+    Rule(u32),
+    Cost(u32),
 }
 
 /// Where a cell is: its kind, what it is of, and the day or the shift.
 #[derive(Clone, Copy)]
 pub struct Spot {
-    pub kind: u32,
-    pub row: u32,
-    pub column: u32,
+    pub kind: u64,
+    pub row: u64,
+    pub column: u64,
 }
 
 // The line's number of a bill, without its sign.
@@ -35,8 +37,8 @@ fn magnitude(bill: &Bill, line: Line) -> u64
     ensures { result ≡ unsigned_abs (number_in bill.now line) }
 {
     match line {
-        Line::Rule(i) => bill.v[i].unsigned_abs(),
-        Line::Cost(i) => bill.s[i].unsigned_abs(),
+        Line::Rule(i) => bill.v[i as usize].unsigned_abs(),
+        Line::Cost(i) => bill.s[i as usize].unsigned_abs(),
     }
 }
 
@@ -61,27 +63,25 @@ fn spot_of(cell: Cell) -> Spot
         Cell::NurseShift(n, k) => (5, n.0, k.0),
         Cell::Care(x) => (6, x.0, 0),
     };
-    Spot { kind, row, column }
+    Spot {
+        kind,
+        row: u64::from(row),
+        column: u64::from(column),
+    }
 }
 
-fn finding_value(alloc: Global, amount: u64, spot: Spot) -> Result<Value, AllocError>
+fn finding_value(alloc: Global, amount: u64, spot: Spot) -> Made
     ensures { IfOk result (λ v. view v ≡ finding_data amount spot) }
 {
-    json!(in alloc; [amount, spot.kind, spot.row, spot.column])
+    list_value(alloc, &[amount, spot.kind, spot.row, spot.column])
 }
 
 // The cells that have any of the line's number, each with its amount.
-#[tactic(auto, using(ih_solution::proofs::ListedValues::chosen_steps))]
-fn finding_values(
-    alloc: Global,
-    cells: Numbering,
-    ledgers: &Ledgers<'_>,
-    line: Line,
-) -> Result<Vec<Value>, AllocError>
+#[tactic(auto, using(ih_solution::proofs::ListedValues::chosen_steps), unfolding(crate::specs::Findings::line_data))]
+fn line_value(alloc: Global, cells: Numbering, ledgers: &Ledgers<'_>, line: Line) -> Made
     requires cells { cells ≡ sizes_of ledgers.now.instance }
     requires line { IsLine line }
-    ensures { let I = ledgers.now.instance in let P = ledgers.now.plan in IfOk result
-        (λ v. map view v.items ≡ map (λ n. finding_data (amount_at I P line n) (spot_of (cell_at I n))) (findings_of I P line)) }
+    ensures { IfOk result (λ v. view v ≡ line_data ledgers.now.instance ledgers.now.plan line) }
 {
     let mut values = Vec::new(alloc);
     for n in 0..cells.count() {
@@ -91,43 +91,41 @@ fn finding_values(
             values.push(finding_value(alloc, amount, spot_of(cell))?)?;
         }
     }
-    Ok(values)
+    Ok(Value::Array(values))
 }
 
-#[tactic(auto, unfolding(crate::specs::Findings::line_data))]
-fn line_value(
-    alloc: Global,
-    cells: Numbering,
-    ledgers: &Ledgers<'_>,
-    line: Line,
-) -> Result<Value, AllocError>
+// The findings of the costs below a number.
+fn costs_value(alloc: Global, cells: Numbering, ledgers: &Ledgers<'_>, count: u32) -> Made
     requires cells { cells ≡ sizes_of ledgers.now.instance }
-    requires line { IsLine line }
-    ensures { IfOk result (λ v. view v ≡ line_data ledgers.now.instance ledgers.now.plan line) }
+    requires few { count ≤ 8 }
+    ensures { IfOk result (λ v. view v ≡ list_data (costs_data ledgers.now.instance ledgers.now.plan count)) }
 {
-    Ok(Value::Array(finding_values(alloc, cells, ledgers, line)?))
+    listed_value(alloc, count, |i| {
+        let line = Line::Cost(i);
+        line_value(alloc, cells, ledgers, line)
+    })
+}
+
+// The findings of the rules below a number.
+fn rules_value(alloc: Global, cells: Numbering, ledgers: &Ledgers<'_>, count: u32) -> Made
+    requires cells { cells ≡ sizes_of ledgers.now.instance }
+    requires few { count ≤ 9 }
+    ensures { IfOk result (λ v. view v ≡ list_data (rules_data ledgers.now.instance ledgers.now.plan count)) }
+{
+    listed_value(alloc, count, |i| {
+        let line = Line::Rule(i);
+        line_value(alloc, cells, ledgers, line)
+    })
 }
 
 /// The findings of each number of the bill.
-#[tactic(auto, using(ih_solution::proofs::ListedValues::listed_steps), unfolding(crate::specs::Findings::findings_data))]
-pub fn findings_value(
-    alloc: Global,
-    cells: Numbering,
-    ledgers: &Ledgers<'_>,
-) -> Result<Value, AllocError>
+#[tactic(auto, unfolding(crate::specs::Findings::findings_data))]
+pub fn findings_value(alloc: Global, cells: Numbering, ledgers: &Ledgers<'_>) -> Made
     requires { cells ≡ sizes_of ledgers.now.instance }
     ensures { IfOk result (λ v. view v ≡ findings_data ledgers.now.instance ledgers.now.plan) }
 {
-    let mut costs = Vec::new(alloc);
-    for i in 0..8 {
-        costs.push(line_value(alloc, cells, ledgers, Line::Cost(i))?)?;
-    }
-    let mut object = Object::new(alloc);
-    object.put_all("costs", costs)?;
-    let mut rules = Vec::new(alloc);
-    for i in 0..9 {
-        rules.push(line_value(alloc, cells, ledgers, Line::Rule(i))?)?;
-    }
-    object.put_all("rules", rules)?;
-    Ok(object.value())
+    Object::new(alloc)
+        .put("costs", costs_value(alloc, cells, ledgers, 8))?
+        .put("rules", rules_value(alloc, cells, ledgers, 9))?
+        .value()
 }

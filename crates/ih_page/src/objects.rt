@@ -1,13 +1,11 @@
 //! JSON objects, built member by member.
 
-use crate::values::{Shown, values};
+use crate::values::{Made, Shown, list_value};
 use serde_json::{Map, Value, put};
-use std::alloc::{AllocError, Global};
+use std::alloc::Global;
 
-/// What adding gives: it fails only where memory runs out.
-pub type Added = Result<(), AllocError>;
-
-/// A JSON object under way. Nothing but it is held while a member is made, which keeps proofs short.
+/// A JSON object under way. Each member that is added gives the object anew, so nothing is held where memory runs out,
+/// which keeps proofs short.
 #[derive(Drop)]
 pub struct Object {
     alloc: Global,
@@ -15,9 +13,10 @@ pub struct Object {
 }
 
 impl Object {
-    ghost use Rattle.std.specs.Prelude.{◌≡◌, OnOk, map as mapped};
+    ghost use Rattle.std.specs.Prelude.{◌≡◌, IfOk, Ok, map as mapped};
     ghost use Rattle.serde_json.specs.Data.{no_members, object, put as with_member};
     ghost use Rattle.serde_json.specs.View.{view};
+    ghost use Rattle.serde_json.specs.declared.value.Value.{Value};
     ghost use Rattle.ih_solution.specs.Solution.{list_data};
     ghost use Rattle.ih_page.specs.Objects.{members};
 
@@ -31,42 +30,37 @@ impl Object {
         }
     }
 
-    /// Adds a value.
-    pub fn put(&mut self, key: &str, value: Value) -> Added
-        ensures { OnOk result (members self.new ≡ with_member key.now (view value) (members self.old)) }
+    /// Adds a value, if it could be made.
+    pub fn put(self, key: &str, value: Made) -> Made<Object>
+        ensures { IfOk result (λ o. (v : Value) × (value ≡ Ok v)
+            × (members o ≡ with_member key.now (view v) (members self))) }
     {
-        put(&mut self.map, self.alloc, key, value)
-    }
-
-    /// Adds a list of values.
-    pub fn put_all(&mut self, key: &str, values: Vec<Value>) -> Added
-        ensures { OnOk result
-            (members self.new ≡ with_member key.now (list_data (mapped view values.items)) (members self.old)) }
-    {
-        self.put(key, Value::Array(values))
+        let Object { alloc, mut map } = self;
+        put(&mut map, alloc, key, value?)?;
+        Ok(Object { alloc, map })
     }
 
     /// Adds what is shown.
-    pub fn show<T: Shown>(&mut self, key: &str, item: &T) -> Added
-        ensures { OnOk result (members self.new ≡ with_member key.now (T.json item.now) (members self.old)) }
+    pub fn show<T: Shown>(self, key: &str, item: &T) -> Made<Object>
+        ensures { IfOk result (λ o. members o ≡ with_member key.now (T.json item.now) (members self)) }
     {
-        let value = item.value(self.alloc)?;
+        let value = item.value(self.alloc);
         self.put(key, value)
     }
 
     /// Adds a list of what is shown.
-    pub fn show_all<T: Shown>(&mut self, key: &str, items: &[T]) -> Added
-        ensures { OnOk result
-            (members self.new ≡ with_member key.now (list_data (mapped T.json items.now)) (members self.old)) }
+    pub fn show_all<T: Shown>(self, key: &str, items: &[T]) -> Made<Object>
+        ensures { IfOk result
+            (λ o. members o ≡ with_member key.now (list_data (mapped T.json items.now)) (members self)) }
     {
-        let values = values(self.alloc, items)?;
-        self.put_all(key, values)
+        let value = list_value(self.alloc, items);
+        self.put(key, value)
     }
 
     /// The whole.
-    pub fn value(self) -> Value
-        ensures { view result ≡ object (members self) }
+    pub fn value(self) -> Made
+        ensures { IfOk result (λ v. view v ≡ object (members self)) }
     {
-        Value::Object(self.map)
+        Ok(Value::Object(self.map))
     }
 }

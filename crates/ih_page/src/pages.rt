@@ -1,7 +1,7 @@
 //! The page of a timetable.
 
-ghost use Rattle.std.specs.Prelude.{◌≡◌, ◌++◌, OnOk, IfOk, IfSome, option_map};
-ghost use Rattle.serde_json.specs.{Data.string, View.view, Written.compact_text};
+ghost use Rattle.std.specs.Prelude.{◌≡◌, ◌++◌, OnOk, IfOk, IfSome, false, option_map};
+ghost use Rattle.serde_json.specs.{Data.string, View.view, Written.compact_text, Written.has_float};
 ghost use Rattle.ih_plan.specs.Timetable.{IsPlanOf};
 ghost use Rattle.ih_page.specs.Changes.{changes_data};
 ghost use Rattle.ih_page.specs.Findings.{findings_data};
@@ -9,19 +9,19 @@ ghost use Rattle.ih_page.specs.Page.{date_data, heading_data, heading_texts, in_
 ghost use Rattle.ih_page.specs.Values.{option_data};
 
 use crate::changes::{Compared, changes_value};
-use crate::escapes::{Put, put, put_escaped};
+use crate::escapes::{put, put_escaped};
 use crate::findings::findings_value;
-use crate::instances::instance_value;
 use crate::objects::Object;
 use crate::template::{HEAD, TAIL};
-use crate::timetables::{bill_value, care_values, stay_values};
-use crate::waits::wait_values;
+use crate::timetables::{bill_value, care_value, stays_value};
+use crate::values::{Made, Shown, list_value};
+use crate::waits::waits_value;
 use ih_costs::Ledgers;
 use ih_footprint::Numbering;
 use ih_plan::Plan;
 use ih_tables::Instance;
 use jiff::civil::Date;
-use serde_json::{Value, json};
+use serde_json::Value;
 use std::alloc::{AllocError, Global};
 
 /// What stands over a page: its title, and the names of the files that it was made from.
@@ -35,7 +35,7 @@ pub struct Heading<'a> {
 }
 
 // A name, or null.
-fn name_value(alloc: Global, name: Option<&str>) -> Result<Value, AllocError>
+fn name_value(alloc: Global, name: Option<&str>) -> Made
     ensures { IfOk result (λ v. view v ≡ option_data string (option_map (λ t. t.now) name.entry)) }
 {
     match name {
@@ -44,38 +44,34 @@ fn name_value(alloc: Global, name: Option<&str>) -> Result<Value, AllocError>
     }
 }
 
-#[tactic(auto, unfolding(crate::specs::Page::heading_data))]
-fn heading_value(alloc: Global, heading: &Heading<'_>) -> Result<Value, AllocError>
-    ensures { IfOk result (λ v. view v ≡ heading_data (heading_texts heading.now)) }
-{
-    let mut object = Object::new(alloc);
-    object.put("instance", Value::try_from_str(alloc, heading.instance)?)?;
-    object.put("older", name_value(alloc, heading.older)?)?;
-    object.put("solution", Value::try_from_str(alloc, heading.solution)?)?;
-    object.put("title", Value::try_from_str(alloc, heading.title)?)?;
-    Ok(object.value())
+impl Shown for Heading<'_> {
+    ghost json = { λ h. heading_data (heading_texts h) };
+
+    #[tactic(auto, unfolding(crate::specs::Page::heading_data))]
+    fn value(&self, alloc: Global) -> Made {
+        Object::new(alloc)
+            .put("instance", Value::try_from_str(alloc, self.instance))?
+            .put("older", name_value(alloc, self.older))?
+            .put("solution", Value::try_from_str(alloc, self.solution))?
+            .put("title", Value::try_from_str(alloc, self.title))?
+            .value()
+    }
 }
 
-// The year, the month and the day, or null.
-fn date_value(alloc: Global, date: Option<Date>) -> Result<Value, AllocError>
-    ensures { IfOk result (λ v. view v ≡ option_data date_data date) }
-{
-    match date {
-        None => Ok(Value::Null),
-        Some(day) => {
-            let year = day.year().unsigned_abs();
-            json!(in alloc; [year, day.month().unsigned_abs(), day.day().unsigned_abs()])
-        }
+/// The year, the month and the day.
+impl Shown for Date {
+    ghost json = { date_data };
+
+    fn value(&self, alloc: Global) -> Made {
+        let year = u32::from(self.year().unsigned_abs());
+        let month = u32::from(self.month().unsigned_abs());
+        let day = u32::from(self.day().unsigned_abs());
+        list_value(alloc, &[year, month, day])
     }
 }
 
 // What changed since an older timetable, or null.
-fn changes_since(
-    alloc: Global,
-    inst: &Instance,
-    plan: &Plan,
-    older: Option<&Plan>,
-) -> Result<Value, AllocError>
+fn changes_since(alloc: Global, inst: &Instance, plan: &Plan, older: Option<&Plan>) -> Made
     requires plan { IsPlanOf inst.now.draft plan.now }
     requires older { IfSome older (λ o. IsPlanOf inst.now.draft o.now) }
     ensures { IfOk result
@@ -88,7 +84,7 @@ fn changes_since(
 }
 
 // What breaks rules or costs, by ledgers of the timetable.
-fn found_value(alloc: Global, inst: &Instance, plan: &Plan) -> Result<Value, AllocError>
+fn found_value(alloc: Global, inst: &Instance, plan: &Plan) -> Made
     requires { IsPlanOf inst.now.draft plan.now }
     ensures { IfOk result (λ v. view v ≡ findings_data inst.now.draft plan.now) }
 {
@@ -98,15 +94,15 @@ fn found_value(alloc: Global, inst: &Instance, plan: &Plan) -> Result<Value, All
 
 // The timetable, and who waits.
 #[tactic(auto, unfolding(crate::specs::Page::plan_data))]
-fn plan_value(alloc: Global, inst: &Instance, plan: &Plan) -> Result<Value, AllocError>
+fn plan_value(alloc: Global, inst: &Instance, plan: &Plan) -> Made
     requires { IsPlanOf inst.now.draft plan.now }
     ensures { IfOk result (λ v. view v ≡ plan_data inst.now.draft plan.now) }
 {
-    let mut object = Object::new(alloc);
-    object.put_all("care", care_values(alloc, inst, plan)?)?;
-    object.put_all("stays", stay_values(alloc, inst, plan)?)?;
-    object.put_all("waits", wait_values(alloc, inst, plan)?)?;
-    Ok(object.value())
+    Object::new(alloc)
+        .put("care", care_value(alloc, inst, plan))?
+        .put("stays", stays_value(alloc, inst, plan))?
+        .put("waits", waits_value(alloc, inst, plan))?
+        .value()
 }
 
 // All that the page shows.
@@ -118,43 +114,25 @@ fn page_value(
     plan: &Plan,
     first: Option<Date>,
     older: Option<&Plan>,
-) -> Result<Value, AllocError>
+) -> Made
     requires plan { IsPlanOf inst.now.draft plan.now }
     requires older { IfSome older (λ o. IsPlanOf inst.now.draft o.now) }
     ensures { IfOk result (λ v. view v
         ≡ page_data (heading_texts heading.now) inst.now.draft first (option_map (λ o. o.now) older.entry) plan.now) }
 {
-    let mut object = Object::new(alloc);
-    object.put("bill", bill_value(alloc, inst, plan)?)?;
-    object.put("changes", changes_since(alloc, inst, plan, older)?)?;
-    object.put("findings", found_value(alloc, inst, plan)?)?;
-    object.put("first", date_value(alloc, first)?)?;
-    object.put("heading", heading_value(alloc, heading)?)?;
-    object.put("instance", instance_value(alloc, &inst.draft)?)?;
-    object.put("plan", plan_value(alloc, inst, plan)?)?;
-    Ok(object.value())
-}
-
-// All that the page shows, as a text of JSON.
-#[tactic(auto, using(crate::proofs::WholeNumbers::whole_numbers))]
-fn page_text(
-    alloc: Global,
-    heading: &Heading<'_>,
-    inst: &Instance,
-    plan: &Plan,
-    first: Option<Date>,
-    older: Option<&Plan>,
-) -> Result<Vec<u8>, AllocError>
-    requires plan { IsPlanOf inst.now.draft plan.now }
-    requires older { IfSome older (λ o. IsPlanOf inst.now.draft o.now) }
-    ensures { IfOk result (λ v. v.items ≡ compact_text
-        (page_data (heading_texts heading.now) inst.now.draft first (option_map (λ o. o.now) older.entry) plan.now)) }
-{
-    page_value(alloc, heading, inst, plan, first, older)?.to_vec(alloc)
+    Object::new(alloc)
+        .put("bill", bill_value(alloc, inst, plan))?
+        .put("changes", changes_since(alloc, inst, plan, older))?
+        .put("findings", found_value(alloc, inst, plan))?
+        .show("first", &first)?
+        .show("heading", heading)?
+        .show("instance", &inst.draft)?
+        .put("plan", plan_value(alloc, inst, plan))?
+        .value()
 }
 
 // The template with a text of JSON in its place.
-fn put_page(out: &mut Vec<u8>, text: &[u8]) -> Put
+fn put_page(out: &mut Vec<u8>, text: &[u8]) -> Made<()>
     ensures { OnOk result (out.new.items ≡ out.old.items ++ in_template text.now) }
 {
     put(out, HEAD)?;
@@ -162,11 +140,22 @@ fn put_page(out: &mut Vec<u8>, text: &[u8]) -> Put
     put(out, TAIL)
 }
 
+// The template with the text of data in its place.
+fn page_with(alloc: Global, data: &Value) -> Made<Vec<u8>>
+    requires { has_float (view data.now) ≡ false }
+    ensures { IfOk result (λ page. page.items ≡ in_template (compact_text (view data.now))) }
+{
+    let text = data.to_vec(alloc)?;
+    let mut out = Vec::new(alloc);
+    put_page(&mut out, text.as_slice())?;
+    Ok(out)
+}
+
 /// The page of a timetable of the instance: one text of HTML that stands alone.
 ///
 /// - Where the date of the first day is known, days have dates.
 /// - Where there is an older timetable, the page says what changed since.
-#[tactic(auto, unfolding(crate::specs::Page::page_of))]
+#[tactic(auto, using(crate::proofs::WholeNumbers::whole_numbers))]
 pub fn page(
     alloc: Global,
     heading: &Heading<'_>,
@@ -180,8 +169,6 @@ pub fn page(
     ensures { IfOk result (λ text. text.items
         ≡ page_of (heading_texts heading.now) inst.now.draft first (option_map (λ o. o.now) older.entry) plan.now) }
 {
-    let text = page_text(alloc, heading, inst, plan, first, older)?;
-    let mut out = Vec::new(alloc);
-    put_page(&mut out, text.as_slice())?;
-    Ok(out)
+    let data = page_value(alloc, heading, inst, plan, first, older)?;
+    page_with(alloc, &data)
 }

@@ -1,42 +1,51 @@
 //! A timetable and its bill as JSON values.
 
-ghost use Rattle.std.specs.Prelude.{◌≡◌, ◌<◌, ◌^◌, IfOk, map};
+ghost use Rattle.std.specs.Prelude.{◌≡◌, ◌<◌, ◌^◌, IfOk, length};
 ghost use Rattle.serde_json.specs.View.{view};
 ghost use Rattle.ih_tables.specs.{Bills.IsWithin, Sizes.room_count, Sizes.shift_count};
-ghost use Rattle.ih_plan.specs.Timetable.{IsPlanOf, care_of};
+ghost use Rattle.ih_plan.specs.Timetable.{IsPlanOf, care_of, stay_of};
 ghost use Rattle.ih_plan.specs.BillOf.{bill_of};
-ghost use Rattle.ih_solution.specs.Solution.{number_data};
-ghost use Rattle.ih_page.specs.TimetableData.{bill_data, care_data, nurses_data, place_data, room_data, stays_data};
+ghost use Rattle.ih_solution.specs.Solution.{list_data, number_data};
+ghost use Rattle.ih_page.specs.TimetableData.{bill_data, care_data, place_data, room_data, stays_data};
 ghost use Rattle.ih_page.specs.Values.{option_data};
 
 use crate::objects::Object;
+use crate::values::{Made, Shown, list_value, listed_value};
 use ih_plan::{Placement, Plan};
 use ih_tables::{Bill, Instance, PatientNo, RoomNo, Shift};
 use ih_validate::bill;
-use serde_json::{Value, json};
-use std::alloc::{AllocError, Global};
+use serde_json::Value;
+use std::alloc::Global;
 
-/// The day, the room and the theatre, or null.
-pub fn stay_value(alloc: Global, stay: Option<Placement>) -> Result<Value, AllocError>
-    ensures { IfOk result (λ v. view v ≡ option_data place_data stay) }
+/// The day, the room and the theatre.
+impl Shown for Placement {
+    ghost json = { place_data };
+
+    fn value(&self, alloc: Global) -> Made {
+        list_value(alloc, &[self.day.0, self.room.0, self.theatre.0])
+    }
+}
+
+/// The stay of a patient, or null.
+pub fn stay_value(alloc: Global, plan: &Plan, patient: PatientNo) -> Made
+    requires { patient.0 < length plan.now.stays }
+    ensures { IfOk result (λ v. view v ≡ option_data place_data (stay_of plan.now patient.0)) }
 {
-    match stay {
+    match plan.stay(patient) {
         None => Ok(Value::Null),
-        Some(at) => json!(in alloc; [at.day.0, at.room.0, at.theatre.0]),
+        Some(place) => place.value(alloc),
     }
 }
 
 /// Every patient's stay, in number order.
-#[tactic(auto, using(ih_solution::proofs::ListedValues::listed_steps))]
-pub fn stay_values(alloc: Global, inst: &Instance, plan: &Plan) -> Result<Vec<Value>, AllocError>
+pub fn stays_value(alloc: Global, inst: &Instance, plan: &Plan) -> Made
     requires { IsPlanOf inst.now.draft plan.now }
-    ensures { IfOk result (λ v. map view v.items ≡ stays_data inst.now.draft plan.now) }
+    ensures { IfOk result (λ v. view v ≡ list_data (stays_data inst.now.draft plan.now)) }
 {
-    let mut values = Vec::new(alloc);
-    for p in 0..inst.patients() {
-        values.push(stay_value(alloc, plan.stay(PatientNo(p)))?)?;
-    }
-    Ok(values)
+    listed_value(alloc, inst.patients(), |p| {
+        let patient = PatientNo(p);
+        stay_value(alloc, plan, patient)
+    })
 }
 
 /// The number of the room's nurse in the shift, or null.
@@ -54,66 +63,44 @@ pub fn nurse_value(inst: &Instance, plan: &Plan, room: RoomNo, shift: Shift) -> 
 }
 
 // The room's nurses, shift by shift.
-#[tactic(auto, using(ih_solution::proofs::ListedValues::listed_steps))]
-fn nurse_values(
-    alloc: Global,
-    inst: &Instance,
-    plan: &Plan,
-    room: RoomNo,
-) -> Result<Vec<Value>, AllocError>
-    requires plan { IsPlanOf inst.now.draft plan.now }
-    requires room { room.0 < room_count inst.now.draft }
-    ensures { IfOk result (λ v. map view v.items ≡ nurses_data inst.now.draft plan.now room.0) }
-{
-    let mut values = Vec::new(alloc);
-    for k in 0..inst.shifts() {
-        values.push(nurse_value(inst, plan, room, Shift(k)))?;
-    }
-    Ok(values)
-}
-
 #[tactic(auto, unfolding(crate::specs::TimetableData::room_data))]
-fn room_value(
-    alloc: Global,
-    inst: &Instance,
-    plan: &Plan,
-    room: RoomNo,
-) -> Result<Value, AllocError>
+fn room_value(alloc: Global, inst: &Instance, plan: &Plan, room: RoomNo) -> Made
     requires plan { IsPlanOf inst.now.draft plan.now }
     requires room { room.0 < room_count inst.now.draft }
     ensures { IfOk result (λ v. view v ≡ room_data inst.now.draft plan.now room.0) }
 {
-    Ok(Value::Array(nurse_values(alloc, inst, plan, room)?))
+    listed_value(alloc, inst.shifts(), |k| {
+        let shift = Shift(k);
+        Ok(nurse_value(inst, plan, room, shift))
+    })
 }
 
 /// The nurses of every room, in number order.
-#[tactic(auto, using(ih_solution::proofs::ListedValues::listed_steps))]
-pub fn care_values(alloc: Global, inst: &Instance, plan: &Plan) -> Result<Vec<Value>, AllocError>
+pub fn care_value(alloc: Global, inst: &Instance, plan: &Plan) -> Made
     requires { IsPlanOf inst.now.draft plan.now }
-    ensures { IfOk result (λ v. map view v.items ≡ care_data inst.now.draft plan.now) }
+    ensures { IfOk result (λ v. view v ≡ list_data (care_data inst.now.draft plan.now)) }
 {
-    let mut values = Vec::new(alloc);
-    for r in 0..inst.rooms() {
-        values.push(room_value(alloc, inst, plan, RoomNo(r))?)?;
-    }
-    Ok(values)
+    listed_value(alloc, inst.rooms(), |r| {
+        let room = RoomNo(r);
+        room_value(alloc, inst, plan, room)
+    })
 }
 
 // A bill and its cost.
 #[tactic(auto, unfolding(crate::specs::TimetableData::bill_data))]
-fn value_of(alloc: Global, inst: &Instance, bill: &Bill) -> Result<Value, AllocError>
+fn value_of(alloc: Global, inst: &Instance, bill: &Bill) -> Made
     requires { IsWithin (10 ^ 11) bill.now }
     ensures { IfOk result (λ v. view v ≡ bill_data inst.now.draft.weights bill.now) }
 {
-    let mut object = Object::new(alloc);
-    object.show("cost", &bill.cost(inst.weights()))?;
-    object.show_all("costs", bill.s.as_slice())?;
-    object.show_all("rules", bill.v.as_slice())?;
-    Ok(object.value())
+    Object::new(alloc)
+        .show("cost", &bill.cost(inst.weights()))?
+        .show_all("costs", bill.s.as_slice())?
+        .show_all("rules", bill.v.as_slice())?
+        .value()
 }
 
 /// The bill of a timetable.
-pub fn bill_value(alloc: Global, inst: &Instance, plan: &Plan) -> Result<Value, AllocError>
+pub fn bill_value(alloc: Global, inst: &Instance, plan: &Plan) -> Made
     requires { IsPlanOf inst.now.draft plan.now }
     ensures { IfOk result
         (λ v. view v ≡ bill_data inst.now.draft.weights (bill_of inst.now.draft plan.now)) }

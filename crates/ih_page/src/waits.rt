@@ -1,46 +1,37 @@
 //! Who waits, as JSON values: the patients whom a timetable leaves out, each with the cheapest admission.
 
-ghost use Rattle.std.specs.Prelude.{◌≡◌, ◌<◌, ◌^◌, IfOk, map};
+ghost use Rattle.std.specs.Prelude.{◌≡◌, ◌<◌, ◌^◌, IfOk};
 ghost use Rattle.serde_json.specs.View.{view};
 ghost use Rattle.ih_tables.specs.{Bills.IsWithin, Sizes.patient_count};
 ghost use Rattle.ih_plan.specs.Timetable.{IsPlanOf};
+ghost use Rattle.ih_solution.specs.Solution.{list_data};
 ghost use Rattle.ih_waiting.specs.ScorerUse.{IsForAdmissions};
 ghost use Rattle.ih_page.specs.Waits.{admission_data, could_data, wait_data, waits_data};
 
 use crate::objects::Object;
-use crate::timetables::stay_value;
+use crate::values::{Made, numbered_value};
 use ih_fill::Scorer;
 use ih_plan::{MAX_HARD, Placement, Plan};
 use ih_tables::{Bill, Instance, PatientNo};
 use ih_waiting::{broken_more, change_by, cheapest_admission};
-use serde_json::{Value, json};
-use std::alloc::{AllocError, Global};
+use serde_json::Value;
+use std::alloc::Global;
 
 // Where an admission puts a patient, and what it changes.
 #[tactic(auto, unfolding(crate::specs::Waits::admission_data))]
-fn admission_value(
-    alloc: Global,
-    inst: &Instance,
-    place: Placement,
-    change: &Bill,
-) -> Result<Value, AllocError>
+fn admission_value(alloc: Global, inst: &Instance, place: Placement, change: &Bill) -> Made
     requires { IsWithin (10 ^ 11) change.now }
     ensures { IfOk result (λ v. view v ≡ admission_data inst.now.draft place change.now) }
 {
-    let mut object = Object::new(alloc);
-    object.put("broken", Value::from(broken_more(change)))?;
-    object.put("cost", Value::from(change.cost(inst.weights())))?;
-    object.put("place", stay_value(alloc, Some(place))?)?;
-    Ok(object.value())
+    Object::new(alloc)
+        .put("broken", Ok(Value::from(broken_more(change))))?
+        .put("cost", Ok(Value::from(change.cost(inst.weights()))))?
+        .show("place", &place)?
+        .value()
 }
 
 // The cheapest admission of a patient, or null.
-fn could_value(
-    alloc: Global,
-    inst: &Instance,
-    scorer: &Scorer<'_>,
-    patient: PatientNo,
-) -> Result<Value, AllocError>
+fn could_value(alloc: Global, inst: &Instance, scorer: &Scorer<'_>, patient: PatientNo) -> Made
     requires scorer { IsForAdmissions inst.now.draft scorer.now }
     requires patient { patient.0 < patient_count inst.now.draft }
     ensures { IfOk result (λ v. view v ≡ could_data inst.now.draft scorer.now.plan patient.0) }
@@ -56,29 +47,20 @@ fn could_value(
 
 // A patient's number and cheapest admission.
 #[tactic(auto, unfolding(crate::specs::Waits::wait_data))]
-fn wait_value(
-    alloc: Global,
-    inst: &Instance,
-    scorer: &Scorer<'_>,
-    patient: PatientNo,
-) -> Result<Value, AllocError>
+fn wait_value(alloc: Global, inst: &Instance, scorer: &Scorer<'_>, patient: PatientNo) -> Made
     requires scorer { IsForAdmissions inst.now.draft scorer.now }
     requires patient { patient.0 < patient_count inst.now.draft }
     ensures { IfOk result (λ v. view v ≡ wait_data inst.now.draft scorer.now.plan patient.0) }
 {
     let could = could_value(alloc, inst, scorer, patient)?;
-    json!(in alloc; [patient.0, could])
+    numbered_value(alloc, patient.0, could)
 }
 
 // Those who wait in the scorer's timetable.
 #[tactic(auto, using(ih_solution::proofs::ListedValues::chosen_steps))]
-fn wait_values_by(
-    alloc: Global,
-    inst: &Instance,
-    scorer: &Scorer<'_>,
-) -> Result<Vec<Value>, AllocError>
+fn waits_value_by(alloc: Global, inst: &Instance, scorer: &Scorer<'_>) -> Made
     requires { IsForAdmissions inst.now.draft scorer.now }
-    ensures { IfOk result (λ v. map view v.items ≡ waits_data inst.now.draft scorer.now.plan) }
+    ensures { IfOk result (λ v. view v ≡ list_data (waits_data inst.now.draft scorer.now.plan)) }
 {
     let mut values = Vec::new(alloc);
     for p in 0..inst.patients() {
@@ -86,14 +68,14 @@ fn wait_values_by(
             values.push(wait_value(alloc, inst, scorer, PatientNo(p))?)?;
         }
     }
-    Ok(values)
+    Ok(Value::Array(values))
 }
 
 /// The patients whom the timetable leaves out, in number order, each with the cheapest admission.
-pub fn wait_values(alloc: Global, inst: &Instance, plan: &Plan) -> Result<Vec<Value>, AllocError>
+pub fn waits_value(alloc: Global, inst: &Instance, plan: &Plan) -> Made
     requires { IsPlanOf inst.now.draft plan.now }
-    ensures { IfOk result (λ v. map view v.items ≡ waits_data inst.now.draft plan.now) }
+    ensures { IfOk result (λ v. view v ≡ list_data (waits_data inst.now.draft plan.now)) }
 {
     let scorer = Scorer::new(alloc, inst, MAX_HARD, true, plan)?;
-    wait_values_by(alloc, inst, &scorer)
+    waits_value_by(alloc, inst, &scorer)
 }

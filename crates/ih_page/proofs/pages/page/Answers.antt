@@ -1,7 +1,6 @@
-use Rattle.std.proofs.Common.{◌∙◌, ap}
-use Rattle.ih_page.specs.Page.{in_template, page_of}
+use Rattle.ih_page.specs.Page.{page_of}
 use Rattle.ih_page.proofs.pages.page.Goals as goal
 
 pub returns : goal.returns
 unfolding page_of
-returns c = (rw c.new-out.ensures.items at c.in_ok-put_page.ensures) ∙ ap in_template (c.as_slice.ensures.value ∙ c.in_ok-text.ensures)
+returns c = rw c.in_ok-data.ensures at c.page_with.ensures

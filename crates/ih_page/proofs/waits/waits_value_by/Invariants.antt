@@ -2,7 +2,7 @@ use Rattle.std.proofs.Common.{◌≡◌, map}
 use Rattle.serde_json.specs.View.{view}
 use Rattle.ih_plan.specs.Sums.{which_below}
 use Rattle.ih_page.specs.Waits.{is_out, wait_data}
-use Rattle.ih_page.proofs.waits.wait_values_by.Given as goal
+use Rattle.ih_page.proofs.waits.waits_value_by.Given as goal
 
 abbrev pub invariant-loop-p : goal.invariant-loop-p
 invariant-loop-p l = map view l.values.items
