@@ -2,25 +2,13 @@
 -- count rose, comes to its end.
 use Rattle.std.proofs.Common.{◌≡◌, ℕ, refl, sym, ap, subst, inl, inr, Bool, true, false, List, [], ◌∷◌, Option, Some, None}
 use Rattle.std.specs.Prelude.{◌≢◌, ◌⊎◌, if◌then◌else◌}
-use Rattle.clap.specs.Words.{Text}
-use Rattle.ih_tables.specs.declared.drafts.Draft.{Draft}
-use Rattle.ih_tables.specs.Bills.{feasible}
-use Rattle.ih_plan.specs.BillOf.{bill_of}
-use Rattle.ih_plan.specs.Timetable.{Timetable}
-use Rattle.ih_improve.specs.ImproverState.{ImproverState}
-use Rattle.ih_improve.specs.Legs.{Leaves as WorkerLeaves}
-use Rattle.ih_shelf.specs.Outside.{IfTold, IsOnePutAtMost, Names, Rose, is_there}
-use Rattle.ih_inputs.specs.Reading.{Given, HasGiven}
-use Rattle.ih_endings.specs.declared.status.Status.{Status}
-use Rattle.ih_endings.specs.declared.status.Status.TheVariants.{Done, Infeasible, NoneFound, OutOfMemory}
-use Rattle.ih_endings.specs.Ends.{HasCause, Unchanged}
-use Rattle.ih_endings.specs.Texts.{memory_text}
+use Rattle.ih_commands.specs.Below.Wards.{Draft, Timetable, bill_of, feasible}
+use Rattle.ih_commands.specs.Below.Arguments.{Text}
+use Rattle.ih_commands.specs.Below.Endings.{AreAnswers, BegunEnds, Done, Given, HasCause, HasGiven, HasNoFault, IfTold, Infeasible, IsOnePutAtMost, Names, NoneFound, OutOfMemory, OutcomeState, Rose, Status, Unchanged, is_there, memory_text}
+use Rattle.ih_commands.specs.Below.Searches.{ImproverState, Leaves as WorkerLeaves}
 use Rattle.ih_endings.proofs.Files.{told-same}
 use Rattle.ih_endings.proofs.Saying.{IsAnswerable, memory-ended, unsaid-by}
 use Rattle.ih_endings.proofs.Stopping.{unread-memory}
-use Rattle.ih_frame.specs.Ends.{AreAnswers, HasNoFault}
-use Rattle.ih_frame.specs.Outcomes.{OutcomeState}
-use Rattle.ih_frame.specs.Steps.{BegunEnds}
 use Rattle.ih_frame.proofs.Complete.{accepted, command-answered, no-fault, reached, steps-answered}
 use Rattle.ih_frame.proofs.StepByStep.{one-within}
 use Rattle.ih_commands.specs.Calls.Bound.{judged_status}

@@ -2,7 +2,7 @@
 use Rattle.std.proofs.Common.{◌≡◌, ap, List, map, Option, Some, None, Global, String, string_bytes}
 use Rattle.std.specs.Prelude.{slice_get}
 use Rattle.std.specs.Option.{option_map_or}
-use Rattle.clap.specs.Words.{Text}
+use Rattle.ih_commands.specs.Below.Arguments.{Text}
 use Rattle.ih_arguments.proofs.FirstWords.{first_name, no_first}
 use Rattle.ih_commands.specs.Calls.{app_for, app_named, program_app}
 

@@ -1,5 +1,4 @@
 pub mod Calls
-pub mod Described
 pub mod FirstWord
 pub mod ImproveEnding
 pub mod NoPlan

@@ -2,14 +2,9 @@
 use Rattle.std.proofs.Common.{◌≡◌, ◌∙◌, ap, refl, inl, inr, ℕ, Bool, true, false, List, [], ◌++◌, append_assoc, length, Option, None}
 use Rattle.std.specs.Prelude.{◌≢◌, if◌then◌else◌}
 use Rattle.std.proofs.lemmas.Bool.{eqb-false}
-use Rattle.ih_shelf.specs.Outside.{Names}
+use Rattle.ih_commands.specs.Below.Endings.{Done, Infeasible, IsLeft, IsPerformed, Names, OutcomeState, Status, WriteFault, unsaid}
 use Rattle.ih_warnings.specs.Warnings.{warnings}
-use Rattle.ih_endings.specs.declared.status.Status.{Status}
-use Rattle.ih_endings.specs.declared.status.Status.TheVariants.{Done, Infeasible, WriteFault}
-use Rattle.ih_endings.specs.Answers.{unsaid}
 use Rattle.ih_endings.proofs.Stopping.{unread-only}
-use Rattle.ih_frame.specs.Ends.{IsPerformed}
-use Rattle.ih_frame.specs.Outcomes.{IsLeft, OutcomeState}
 use Rattle.ih_commands.specs.Calls.Bound.{judged_status}
 use Rattle.ih_commands.specs.Calls.Why.{IsExplained, WhyCall, nothing_text, plan_text_in, says_nothing, why_inputs, why_text}
 use Rattle.ih_commands.specs.Laws.{ExplainedCallsHaveNoPlan, HasNoPlan}

@@ -2,28 +2,12 @@
 use Rattle.std.proofs.Common.{◌≡◌, ◌∙◌, ℕ, ◌+◌, ◌<◌, ◌≤◌, refl, sym, ap, subst, arith, inl, inr, Bool, true, false, List, [], ◌∷◌, ◌++◌, append_assoc, append-nil, length, Option, Some, None}
 use Rattle.std.specs.Prelude.{codes, ◌⊎◌, ◌&&◌, IfSome, if◌then◌else◌}
 use Rattle.std.proofs.lemmas.Bool.{and_parts}
-use Rattle.ih_tables.specs.Bills.{feasible}
-use Rattle.ih_bound.specs.declared.outcomes.Outcome.{Outcome}
-use Rattle.ih_plan.specs.Timetable.{Timetable}
-use Rattle.ih_plan.specs.BillOf.{bill_of}
-use Rattle.ih_shelf.specs.Outside.{IfTold, IsWritten, Names}
-use Rattle.ih_solution.specs.Solution.{solution}
-use Rattle.ih_validate.specs.Report.{report}
-use Rattle.ih_inputs.specs.Reading.{HasOlder, HasSolution}
-use Rattle.ih_improve.specs.Better.{is_better_than}
-use Rattle.ih_improve.specs.Following.{IsNoDearer, IsNoWorse, MayFollow}
-use Rattle.ih_improve.specs.ImproverState.{ImproverState, terms_of}
-use Rattle.ih_improve.specs.Terms.{Terms}
-use Rattle.ih_improve.specs.Legs.{Leaves}
+use Rattle.ih_commands.specs.Below.Wards.{Timetable, bill_of, feasible, report, solution}
+use Rattle.ih_commands.specs.Below.Endings.{AreAllWritten, AreSteps, AreWritten, Done, EndsFrom, HasOlder, HasSolution, IfTold, IsStatusOf, IsWritten, Names, NoneFound, OutOfMemory, OutcomeState, StartRefused, Status, StepsEnds, Unchanged, WriteFault, says, told, unsaid}
+use Rattle.ih_commands.specs.Below.Searches.{ImproverState, IsNoDearer, IsNoWorse, Leaves, MayFollow, Outcome, Terms, is_better_than, terms_of}
 use Rattle.ih_improve.proofs.BetterLemmas.{no_dearer-through, no_worse-no_dearer, no_worse-through, unbeaten-no_worse}
-use Rattle.ih_endings.specs.declared.status.Status.{Status}
-use Rattle.ih_endings.specs.declared.status.Status.TheVariants.{Done, NoneFound, OutOfMemory, StartRefused, WriteFault}
-use Rattle.ih_endings.specs.Answers.{unsaid}
-use Rattle.ih_endings.specs.Ends.{Unchanged}
 use Rattle.ih_endings.proofs.Files.{told-then}
 use Rattle.ih_endings.proofs.Stopping.{unread-only}
-use Rattle.ih_frame.specs.Outcomes.{AreWritten, IsStatusOf, OutcomeState, says}
-use Rattle.ih_frame.specs.Steps.{AreAllWritten, AreSteps, BegunEnds, EndsFrom, StepsEnds, told}
 use Rattle.ih_commands.specs.Calls.Improve.{ImproveCall, improve_inputs, older_of, reading}
 use Rattle.ih_commands.specs.Pacing.{least_rounds, most_rounds}
 use Rattle.ih_commands.specs.declared.pacing.Length.{Length}
@@ -31,7 +15,7 @@ use Rattle.ih_commands.specs.declared.pacing.Length.TheVariants.{Attempts, Secon
 use Rattle.ih_commands.specs.Laws.{DoneCallsHaveImproved, IsDraft, IsDrafted, IsImproved, IsInOut, NoneFoundLeavesADraft, call_terms}
 use Rattle.ih_commands.specs.Pinning.{unknown_patient}
 use Rattle.ih_commands.specs.Rounds.{IsRound, IsSearched, SearchTask, beats, changes_text, draft_writes, end_text, first_text, gap_so_far, goes_out, kept_line, round_line, stays, unfound}
-use Rattle.ih_commands.specs.Searching.{IsSearch, PinsNobody, task_of}
+use Rattle.ih_commands.specs.Searching.{IsSearch, task_of}
 use Rattle.ih_commands.proofs.RoundsTaken.{came, holds}
 
 -- a status that isn't another one, nor what that becomes where its text can't be put out
@@ -304,7 +288,13 @@ module _ (c : ImproveCall) (held : Option Timetable) (bound : Option Outcome) (o
 
 -- what holds of the call as it reads holds of the call
 pub done-improved : DoneCallsHaveImproved
-done-improved c old new text h = by_ends h.ends.ends
+done-improved c old new text h = elim h.ends.ends [
+  | inl nobody ↦ absurd (let refused = nobody.1.refused in let clash : Done ≡ StartRefused unknown_patient = refused in cc)
+  | inr begun ↦ elim begun [
+    | inl unread ↦ absurd (unread-only old (improve_inputs (reading h.found c)) Done text unread.1)
+    | inr s ↦ improved-as (found (reading h.found c) h.ends.held h.ends.bound old new text s.0 s.1 s.2 s.2.ends)
+  ]
+]
   where
     improved-as : IsImproved (reading h.found c) old new text → IsImproved c old new text
     improved-as i = record {
@@ -328,16 +318,14 @@ done-improved c old new text h = by_ends h.ends.ends
       told = i.told;
     }
 
-    by_ends : (IfTold Unchanged old new × PinsNobody old (reading h.found c) Done text)
-        ⊎ BegunEnds (IsSearch old (reading h.found c) h.ends.held h.ends.bound) (IsRound Leaves (task_of (reading h.found c) h.ends.held h.ends.bound))
-        (IsSearched (task_of (reading h.found c) h.ends.held h.ends.bound))
-        (most_rounds c.pace.length c.pace.rounds) (improve_inputs (reading h.found c)) old new Done text → IsImproved c old new text
-    by_ends (inl (kept, nobody)) = absurd (let refused = nobody.refused in let clash : Done ≡ StartRefused unknown_patient = refused in cc)
-    by_ends (inr (inl (kept, unread))) = absurd (unread-only old (improve_inputs (reading h.found c)) Done text unread)
-    by_ends (inr (inr (v, is, e))) = improved-as (found (reading h.found c) h.ends.held h.ends.bound old new text v is e e.ends)
-
 pub none-drafted : NoneFoundLeavesADraft
-none-drafted c old new text h = by_ends h.ends.ends
+none-drafted c old new text h = elim h.ends.ends [
+  | inl nobody ↦ absurd (let refused = nobody.1.refused in let clash : NoneFound ≡ StartRefused unknown_patient = refused in cc)
+  | inr begun ↦ elim begun [
+    | inl unread ↦ absurd (unread-only old (improve_inputs (reading h.found c)) NoneFound text unread.1)
+    | inr s ↦ drafted-as (drafted (reading h.found c) h.ends.held h.ends.bound old new text s.0 s.1 s.2 s.2.ends)
+  ]
+]
   where
     drafted-as : IsDrafted (reading h.found c) old new → IsDrafted c old new
     drafted-as d = record {
@@ -348,11 +336,3 @@ none-drafted c old new text h = by_ends h.ends.ends
       infeasible = d.infeasible;
       written = d.written;
     }
-
-    by_ends : (IfTold Unchanged old new × PinsNobody old (reading h.found c) NoneFound text)
-        ⊎ BegunEnds (IsSearch old (reading h.found c) h.ends.held h.ends.bound) (IsRound Leaves (task_of (reading h.found c) h.ends.held h.ends.bound))
-        (IsSearched (task_of (reading h.found c) h.ends.held h.ends.bound))
-        (most_rounds c.pace.length c.pace.rounds) (improve_inputs (reading h.found c)) old new NoneFound text → IsDrafted c old new
-    by_ends (inl (kept, nobody)) = absurd (let refused = nobody.refused in let clash : NoneFound ≡ StartRefused unknown_patient = refused in cc)
-    by_ends (inr (inl (kept, unread))) = absurd (unread-only old (improve_inputs (reading h.found c)) NoneFound text unread)
-    by_ends (inr (inr (v, is, e))) = drafted-as (drafted (reading h.found c) h.ends.held h.ends.bound old new text v is e e.ends)

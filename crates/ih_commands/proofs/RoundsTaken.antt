@@ -2,19 +2,10 @@
 use Rattle.std.proofs.Common.{◌≡◌, ◌∙◌, ℕ, zero, suc, ◌+◌, ◌<◌, refl, sym, ap, ap₂, subst, arith, inl, inr, Bool, true, false, nat_eq, List, [], ◌∷◌, length, Option, Some, None}
 use Rattle.std.specs.Prelude.{◌&&◌, ◌||◌, ◌⊎◌, if◌then◌else◌}
 use Rattle.std.proofs.lemmas.Bool.{and_parts, eqb-true}
-use Rattle.ih_tables.specs.Bills.{feasible}
-use Rattle.ih_plan.specs.Timetable.{Timetable}
-use Rattle.ih_plan.specs.BillOf.{bill_of}
-use Rattle.ih_shelf.specs.Outside.{IsWritten, Names, OthersKept}
-use Rattle.ih_solution.specs.Solution.{solution}
-use Rattle.ih_improve.specs.Better.{is_better_than, standing_of}
-use Rattle.ih_improve.specs.ImproverState.{ImproverState, led_to, terms_of}
+use Rattle.ih_commands.specs.Below.Wards.{Timetable, bill_of, feasible, solution}
+use Rattle.ih_commands.specs.Below.Endings.{AreAllWritten, AreSteps, AreWritten, IsWritten, Names, OthersKept, OutcomeState, Unchanged}
+use Rattle.ih_commands.specs.Below.Searches.{ImproverState, Leaves, LegState, Span, is_better_than, led_to, standing_of, terms_of}
 use Rattle.ih_improve.proofs.BetterLemmas.{better-through}
-use Rattle.ih_improve.specs.declared.spans.Span.{Span}
-use Rattle.ih_improve.specs.Legs.{Leaves, LegState}
-use Rattle.ih_endings.specs.Ends.{Unchanged}
-use Rattle.ih_frame.specs.Outcomes.{AreWritten, OutcomeState}
-use Rattle.ih_frame.specs.Steps.{AreAllWritten, AreSteps}
 use Rattle.ih_commands.specs.Laws.{RoundsLeaveTheirBest}
 use Rattle.ih_commands.specs.Rounds.{HoldsBest, IsRound, SearchTask, beats, best_writing, goes_out, is_new}
 

@@ -1,14 +1,10 @@
 -- Rounds that determined workers make leave the same.
 use Rattle.std.proofs.Common.{◌≡◌, ◌∙◌, ℕ, sym, ap, subst, arith, List, [], ◌∷◌, length}
 use Rattle.std.specs.Prelude.{◌&&◌}
-use Rattle.ih_plan.specs.Timetable.{Timetable}
-use Rattle.ih_improve.specs.ImproverState.{ImproverState, Leads, led_to}
-use Rattle.ih_improve.specs.Laws.{IsDetermined}
-use Rattle.ih_improve.specs.Legs.{LegState}
-use Rattle.ih_improve.specs.declared.spans.Span.{Span}
+use Rattle.ih_commands.specs.Below.Wards.{Timetable}
+use Rattle.ih_commands.specs.Below.Endings.{AreSteps, OutcomeState}
+use Rattle.ih_commands.specs.Below.Searches.{ImproverState, IsDetermined, Leads, LegState, Span, led_to}
 use Rattle.ih_improve.proofs.Determined.{one-round}
-use Rattle.ih_frame.specs.Outcomes.{OutcomeState}
-use Rattle.ih_frame.specs.Steps.{AreSteps}
 use Rattle.ih_frame.proofs.SameFiles.{SameWrites, files-same}
 use Rattle.ih_commands.specs.Laws.{AreRounds, AttemptsLeaveTheSame, DifferInNumbers, IsTheSame, RoundsLeaveTheSame}
 use Rattle.ih_commands.specs.Pacing.{IsNextSpan, attempts_of, share_of}

@@ -1,35 +1,18 @@
 -- The search of a call: what it is, and that the words and the files determine it.
-use Rattle.std.proofs.Common.{◌≡◌, ◌∙◌, ◌≤◌, arith, inr, refl, sym, ap, ap₂, subst, Bool, true, false, List, ℕ, Option, Some, None, Ok}
-use Rattle.std.specs.Prelude.{IfSome, if◌then◌else◌}
-use Rattle.ih_tables.specs.declared.drafts.Draft.{Draft}
-use Rattle.ih_tables.specs.Bills.{feasible}
-use Rattle.ih_plan.specs.Timetable.{Timetable}
-use Rattle.ih_plan.specs.BillOf.{bill_of}
-use Rattle.ih_bound.specs.declared.outcomes.Outcome.{Outcome}
-use Rattle.ih_fill.specs.Fill.{fill}
-use Rattle.ih_shelf.specs.Outside.{Names, is_there}
-use Rattle.ih_endings.specs.declared.status.Status.{Status}
-use Rattle.ih_endings.specs.Ends.{Ends}
-use Rattle.ih_endings.proofs.Later.{ends-later}
-use Rattle.ih_frame.specs.Steps.{BegunEnds}
-use Rattle.ih_improve.specs.Legs.{Leaves}
-use Rattle.ih_inputs.specs.Reading.{Given, HasGiven, HasInputs, HasInstance, HasOlder, HasPlan}
-use Rattle.ih_improve.specs.Better.{is_better, of_bill}
-use Rattle.ih_improve.specs.Following.{IsNoDearer}
-use Rattle.ih_improve.specs.Given.{AreSettingsOf}
-use Rattle.ih_improve.specs.ImproverState.{ImproverState}
-use Rattle.ih_improve.specs.declared.settings.Settings.{Settings}
-use Rattle.ih_improve.specs.Pinned.{PinsState, pins_of}
+use Rattle.std.proofs.Common.{◌≡◌, ◌∙◌, ◌≤◌, arith, refl, sym, ap, ap₂, subst, Bool, true, false, List, ℕ, Option, Some, None, Ok}
+use Rattle.std.specs.Prelude.{if◌then◌else◌}
+use Rattle.ih_commands.specs.Below.Wards.{Draft, Timetable, bill_of, feasible}
+use Rattle.ih_commands.specs.Below.Endings.{Given, HasGiven, HasInputs, HasInstance, HasOlder, HasPlan, Names}
+use Rattle.ih_commands.specs.Below.Searches.{AreSettingsOf, ImproverState, IsNoDearer, Outcome, PinsState, Settings, fill, is_better, of_bill, pins_of}
 use Rattle.ih_improve.proofs.BetterLemmas.{cheaper-no_dearer, no_dearer-same}
 use Rattle.ih_improve.proofs.GivenSettings.{settings-same}
 use Rattle.ih_commands.specs.Calls.Improve.{ImproveCall, improve_inputs, older_of, reading}
-use Rattle.ih_commands.specs.Rounds.{IsRound, IsSearched}
 use Rattle.ih_commands.specs.Pacing.{IsLawfulPace, most_rounds, rounds_left}
 use Rattle.ih_commands.specs.declared.pacing.Length.{Length}
 use Rattle.ih_commands.specs.declared.pacing.Length.TheVariants.{Attempts, Seconds}
 use Rattle.ih_commands.specs.Laws.{SearchesAreDetermined}
 use Rattle.ih_commands.specs.Pinning.{first_unknown}
-use Rattle.ih_commands.specs.Searching.{ImproveEnds, IsLimit, IsSearch, IsSearchFrom, SearchEnds, begun, cheaper_fill, new_search, task_of}
+use Rattle.ih_commands.specs.Searching.{IsLimit, IsSearch, IsSearchFrom, begun, cheaper_fill, new_search}
 
 cheaper-fill : (hard : ℕ) (I : Draft) (P : Timetable) → IsNoDearer I P (cheaper_fill hard I P)
 cheaper-fill hard I P = by_case (is_better hard 0 I.weights (of_bill (bill_of I (fill I hard P))) (of_bill (bill_of I P))) refl
@@ -119,23 +102,3 @@ pub rounds-few : (l : Length) (rounds : ℕ) (over : Bool) (made : ℕ) → roun
 rounds-few (Attempts n) rounds over made = omega arith
 rounds-few (Seconds s) rounds true made = omega arith
 rounds-few (Seconds s) rounds false made = omega arith
-
--- ---- how a call ends, by what it reads
-
-module _ (c : ImproveCall) where
-  -- what OUT has that may stay, and what is told of all feasible timetables
-  pub search-ended : (held : Option Timetable) (bound : Option Outcome) (old new : Option Names) (cause : Status → Type 0) (received part : List ℕ → Type 0) (status : Status)
-      → Ends (BegunEnds (IsSearch old c held bound) (IsRound Leaves (task_of c held bound)) (IsSearched (task_of c held bound)) (most_rounds c.pace.length c.pace.rounds) (improve_inputs c) old new)
-      cause received part status
-      → Ends (SearchEnds c old new) cause received part status
-  search-ended held bound old new cause received part =
-      ends-later (BegunEnds (IsSearch old c held bound) (IsRound Leaves (task_of c held bound)) (IsSearched (task_of c held bound)) (most_rounds c.pace.length c.pace.rounds) (improve_inputs c) old new)
-      (SearchEnds c old new) (λ t. t) cause cause received part received part (λ s t h. record { held = held; bound = bound; ends = inr h }) (λ s h. h) (λ t h. h) (λ t h. h)
-
-  -- whether OUT is there
-  pub improve-ended : (found : Bool) (old new : Option Names) (cause : Status → Type 0) (received part : List ℕ → Type 0) (status : Status)
-      → IfSome old (λ files. found ≡ is_there files c.out) → Ends (SearchEnds (reading found c) old new) cause received part status
-      → Ends (ImproveEnds c old new) cause received part status
-  improve-ended found old new cause received part status there =
-      ends-later (SearchEnds (reading found c) old new) (ImproveEnds c old new) (λ t. t) cause cause received part received part
-      (λ s t h. record { found = found; there = there; ends = h }) (λ s h. h) (λ t h. h) (λ t h. h) status

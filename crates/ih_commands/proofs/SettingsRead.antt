@@ -1,13 +1,11 @@
 -- The settings that the words of improve give.
-use Rattle.std.proofs.Common.{◌≡◌, ◌∙◌, ◌≤◌, ℕ, refl, sym, ap, subst, arith, Bool, true, false, List, Option, Some, None}
-use Rattle.std.specs.Prelude.{◌&&◌, IfSome, if◌then◌else◌, unwrap_or, codes}
-use Rattle.clap.specs.Words.{Row}
-use Rattle.ih_plan.specs.declared.limits.TheConstants.{MAX_HARD, MAX_HEAT, MAX_WORKERS}
-use Rattle.ih_arguments.specs.Matches.{IsNumberIfGiven, number_if_given}
-use Rattle.ih_arguments.specs.Start.{freezes_a_file, takes_a_file}
+use Rattle.std.proofs.Common.{◌≡◌, ◌≤◌, ℕ, sym, subst, arith, Bool, true, false, List, Option, Some, None}
+use Rattle.std.specs.Prelude.{IfSome, if◌then◌else◌, unwrap_or, codes}
+use Rattle.ih_commands.specs.Below.Wards.{MAX_HARD, MAX_HEAT, MAX_WORKERS}
+use Rattle.ih_commands.specs.Below.Arguments.{IsNumberIfGiven, Row, number_if_given, takes_a_file}
+use Rattle.ih_commands.specs.Below.Searches.{MAX_KEEP}
 use Rattle.ih_arguments.proofs.Getters.{number_if_given-within}
-use Rattle.ih_improve.specs.declared.settings.TheConstants.{MAX_KEEP}
-use Rattle.ih_commands.specs.Calls.Improve.{HasImprove, ImproveCall, IsLawfulCall, are_options_apart, are_settings_lawful, are_names_apart, default_rounds, improve_in, keep_in, lawful_improve, length_in}
+use Rattle.ih_commands.specs.Calls.Improve.{HasImprove, ImproveCall, IsLawfulCall, default_rounds, improve_in, keep_in, length_in}
 use Rattle.ih_commands.specs.Pacing.{attempts_of}
 use Rattle.ih_commands.specs.declared.command.common.TheConstants.{DEFAULT_WORKERS}
 use Rattle.ih_commands.specs.declared.pacing.Length.{Length}
@@ -66,28 +64,3 @@ settings-lawful rows has few =
 
 pub call-lawful : (rows : List Row) → HasImprove rows → (c : ImproveCall) → c ≡ improve_in rows → AreFew c → IsLawfulCall c
 call-lawful rows has c is = subst (λ (x : ImproveCall). AreFew x → IsLawfulCall x) (sym is) (settings-lawful rows has)
-
--- ---- where it is lawful
-
-if-true : {A : Type 0} (b : Bool) (x y : A) → b ≡ true → (if b then x else y) ≡ x
-if-true b x y is = subst (λ (t : Bool). (if t then x else y) ≡ x) (sym is) refl
-
-if-false : {A : Type 0} (b : Bool) (x y : A) → b ≡ false → (if b then x else y) ≡ y
-if-false b x y is = subst (λ (t : Bool). (if t then x else y) ≡ y) (sym is) refl
-
--- the tests of a call's values
-abbrev pub are_values_lawful : List Row → ImproveCall → Bool
-are_values_lawful rows c =
-    freezes_a_file rows && (are_options_apart rows && (are_names_apart c && are_settings_lawful c))
-
-module _ (rows : List Row) (c : ImproveCall) (is : c ≡ improve_in rows) where
-  pub lawful-call : are_values_lawful rows c ≡ true → Some c ≡ lawful_improve rows
-  lawful-call works =
-      ap (λ (x : ImproveCall). Some x) is
-      ∙ sym (if-true (are_values_lawful rows (improve_in rows)) (Some (improve_in rows)) None
-      (subst (λ (x : ImproveCall). are_values_lawful rows x ≡ true) is works))
-
-  pub unlawful-call : are_values_lawful rows c ≡ false → None ≡ lawful_improve rows
-  unlawful-call fails =
-      sym (if-false (are_values_lawful rows (improve_in rows)) (Some (improve_in rows)) None
-      (subst (λ (x : ImproveCall). are_values_lawful rows x ≡ false) is fails))

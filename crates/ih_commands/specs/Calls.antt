@@ -2,13 +2,8 @@
 use Rattle.std.specs.Prelude.{◌≡◌, ◌≢◌, ◌⊎◌, [], true, List, Option, None, codes, if◌then◌else◌, option_map, slice_get}
 use Rattle.std.specs.Option.{option_map_or}
 use Rattle.std.specs.Str.{bytes_eq}
-use Rattle.clap.specs.Simple.{on_top}
-use Rattle.clap.specs.Words.{App, Text, new_app, with_subcommand}
-use Rattle.ih_arguments.specs.Matches.{by_first_word, call_by}
-use Rattle.ih_inputs.specs.Reading.{Given, InputFiles}
-use Rattle.ih_endings.specs.declared.status.Status.{Status}
-use Rattle.ih_endings.specs.declared.status.Status.TheVariants.{Done, Infeasible, NoneFound, OutOfMemory, StartRefused}
-use Rattle.ih_frame.specs.Outcomes.{OutcomeState}
+use Rattle.ih_commands.specs.Below.Arguments.{App, Text, by_first_word, call_by, new_app, on_top, with_subcommand}
+use Rattle.ih_commands.specs.Below.Endings.{Done, Given, Infeasible, InputFiles, NoneFound, OutOfMemory, OutcomeState, StartRefused, Status}
 use Rattle.ih_commands.specs.Calls.Bound.{BoundCall, HasFewWorkers, IsBounded, bound_app, bound_call, bound_inputs, lawful_bound}
 use Rattle.ih_commands.specs.Calls.Carry.{CarryCall, IsCarriedOver, carry_app, carry_call, carry_inputs, lawful_carry}
 use Rattle.ih_commands.specs.Calls.Check.{CheckCall, IsChecked, check_app, check_call, check_inputs, lawful_check}
@@ -53,11 +48,8 @@ command_call (WhyCommand w) = why (why_call w)
 abbrev pub HasLawfulSettings : Command → Type 0
 HasLawfulSettings (ImproveCommand i) = IsLawfulCall (improve_call i)
 HasLawfulSettings (BoundCommand b) = HasFewWorkers b
-HasLawfulSettings (ViewCommand v) = Unit {0}
-HasLawfulSettings (CheckCommand c) = Unit {0}
-HasLawfulSettings (CarryCommand c) = Unit {0}
-HasLawfulSettings (TableCommand t) = Unit {0}
 HasLawfulSettings (WhyCommand w) = HasFewToAsk w
+HasLawfulSettings command = Unit {0}
 
 -- ---- the words that name them
 

@@ -1,15 +1,7 @@
 -- How a call of the program ends: what it then has read, written and said, by its status.
 use Rattle.std.specs.Prelude.{◌≡◌, ℕ, ◌+◌, List, Option, Some, None}
-use Rattle.clap.specs.Words.{Text}
-use Rattle.ih_shelf.specs.Outside.{IfTold, IsOnePutAtMost, Names, is_there}
-use Rattle.ih_arguments.specs.Explaining.{MayAskForHelp, MayBeRefused}
-use Rattle.ih_inputs.specs.Reading.{Given, HasGiven}
-use Rattle.ih_endings.specs.declared.status.Status.{Status}
-use Rattle.ih_endings.specs.declared.status.Status.TheVariants.{Done, Usage, WriteFault, OutOfMemory}
-use Rattle.ih_endings.specs.Ends.{Ends, Unchanged}
-use Rattle.ih_endings.specs.Texts.{memory_text}
-use Rattle.ih_frame.specs.Ends.{CommandEnds}
-use Rattle.ih_frame.specs.Steps.{ArePutsAtMost}
+use Rattle.ih_commands.specs.Below.Arguments.{MayAskForHelp, MayBeRefused, Text}
+use Rattle.ih_commands.specs.Below.Endings.{ArePutsAtMost, CommandEnds, Done, Ends, Given, HasGiven, IfTold, IsOnePutAtMost, Names, OutOfMemory, Status, Unchanged, Usage, WriteFault, is_there, memory_text}
 use Rattle.ih_commands.specs.Calls.{Call, IsAnswered, app_for, comes_to, improve, inputs_of}
 use Rattle.ih_commands.specs.Calls.Improve.{improve_inputs, reading}
 use Rattle.ih_commands.specs.Pacing.{most_rounds}

@@ -1,29 +1,9 @@
 -- Laws of calls of the program.
 use Rattle.std.specs.Prelude.{◌≡◌, ◌≢◌, ℕ, true, false, List, [], ◌∷◌, ◌++◌, length, Option, Some, None, IfSome, ◌⊎◌}
-use Rattle.clap.specs.Words.{Text}
-use Rattle.ih_tables.specs.declared.drafts.Draft.{Draft}
-use Rattle.ih_tables.specs.Bills.{feasible}
-use Rattle.ih_plan.specs.Timetable.{Timetable}
-use Rattle.ih_plan.specs.BillOf.{bill_of}
-use Rattle.ih_shelf.specs.Outside.{IfTold, IsWritten, Names}
-use Rattle.ih_bound.specs.declared.outcomes.Outcome.{Outcome}
-use Rattle.ih_solution.specs.Solution.{solution}
-use Rattle.ih_validate.specs.Report.{report}
-use Rattle.ih_bound.specs.Bounds.{NoneIsFeasible}
-use Rattle.ih_inputs.specs.Reading.{Given, HasGiven, HasInputs, HasSolution}
-use Rattle.ih_improve.specs.Following.{IsNoDearer, MayFollow}
-use Rattle.ih_improve.specs.Given.{AreSettingsOf}
-use Rattle.ih_improve.specs.ImproverState.{ImproverState}
-use Rattle.ih_improve.specs.Laws.{IsDetermined}
-use Rattle.ih_improve.specs.Legs.{Leaves, LegState}
-use Rattle.ih_improve.specs.Pinned.{pins_of}
-use Rattle.ih_improve.specs.Terms.{Terms}
-use Rattle.ih_improve.specs.declared.settings.Settings.{Settings}
-use Rattle.ih_improve.specs.declared.spans.Span.{Span}
-use Rattle.ih_endings.specs.declared.status.Status.TheVariants.{Done, Infeasible, NoneFound}
-use Rattle.ih_endings.specs.Ends.{Unchanged}
-use Rattle.ih_frame.specs.Outcomes.{OutcomeState}
-use Rattle.ih_frame.specs.Steps.{AreAllWritten, AreSteps}
+use Rattle.ih_commands.specs.Below.Wards.{Draft, Timetable, bill_of, feasible, report, solution}
+use Rattle.ih_commands.specs.Below.Arguments.{Text}
+use Rattle.ih_commands.specs.Below.Endings.{AreAllWritten, AreSteps, Done, Given, HasGiven, HasInputs, HasSolution, IfTold, Infeasible, IsWritten, Names, NoneFound, OutcomeState, Unchanged}
+use Rattle.ih_commands.specs.Below.Searches.{AreSettingsOf, ImproverState, IsDetermined, IsNoDearer, Leaves, LegState, MayFollow, NoneIsFeasible, Outcome, Settings, Span, Terms, pins_of}
 use Rattle.ih_commands.specs.Calls.{why}
 use Rattle.ih_commands.specs.Calls.Improve.{ImproveCall, improve_inputs}
 use Rattle.ih_commands.specs.Calls.Why.{AreCauses, WhyCall, why_inputs}

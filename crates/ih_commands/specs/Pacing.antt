@@ -1,8 +1,6 @@
 -- How long a search goes on, and what each of its rounds is to do.
 use Rattle.std.specs.Prelude.{◌≡◌, ℕ, ◌+◌, ◌-◌, ◌*◌, ◌/◌, ◌≤◌, ◌<◌, Bool, false, if◌then◌else◌}
-use Rattle.ih_improve.specs.ImproverState.{ImproverState}
-use Rattle.ih_improve.specs.declared.settings.TheConstants.{MAX_ROUNDS}
-use Rattle.ih_improve.specs.declared.spans.Span.{Span}
+use Rattle.ih_commands.specs.Below.Searches.{ImproverState, MAX_ROUNDS, Span}
 use Rattle.ih_commands.specs.declared.pacing.Length.{Length}
 use Rattle.ih_commands.specs.declared.pacing.Length.TheVariants.{Attempts, Seconds}
 use Rattle.ih_commands.specs.declared.pacing.Pace.{Pace}

@@ -1,7 +1,7 @@
 -- The ids of patients whose stays are pinned, and what is said of one that no patient has.
 use Rattle.std.specs.Prelude.{ℕ, List, ◌++◌, Option, codes, find, is_none, map}
-use Rattle.clap.specs.Words.{Text}
-use Rattle.ih_tables.specs.declared.drafts.Draft.{Draft}
+use Rattle.ih_commands.specs.Below.Wards.{Draft}
+use Rattle.ih_commands.specs.Below.Arguments.{Text}
 use Rattle.ih_tables.specs.declared.drafts.Patient.{Patient}
 use Rattle.ih_tables.specs.declared.refusals.Fault.TheVariants.{Unknown}
 use Rattle.ih_tables.specs.declared.refusals.Key.TheVariants.{Patients}

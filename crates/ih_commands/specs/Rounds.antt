@@ -1,28 +1,12 @@
 -- The rounds of a search: what each leads to, what it writes and what it tells.
 use Rattle.std.specs.Prelude.{◌≡◌, ◌==◌, ℕ, ◌+◌, ◌*◌, ◌<◌, ◌≤◌, ◌&&◌, ◌||◌, Bool, true, false, nat_eq, List, [], ◌∷◌, ◌++◌, Option, Some, None, codes, decimal, if◌then◌else◌}
 use Rattle.std.specs.Fmt.{signed_decimal}
-use Rattle.ih_tables.specs.declared.drafts.Draft.{Draft}
-use Rattle.ih_tables.specs.Bills.{cost, feasible}
-use Rattle.ih_plan.specs.Timetable.{Timetable}
-use Rattle.ih_plan.specs.BillOf.{bill_of}
-use Rattle.ih_shelf.specs.Outside.{IsWritten, Names, OthersKept}
-use Rattle.ih_solution.specs.Solution.{solution}
-use Rattle.ih_validate.specs.Report.{report}
-use Rattle.ih_bound.specs.Texts.{gap_text, limit_line}
-use Rattle.ih_bound.specs.declared.outcomes.Outcome.{Outcome}
+use Rattle.ih_commands.specs.Below.Wards.{Draft, Timetable, bill_of, cost, feasible, report, solution}
+use Rattle.ih_commands.specs.Below.Endings.{Done, IsWritten, Names, NoneFound, OthersKept, Out, OutcomeState, Unchanged, WritingState, none_found_text, says}
+use Rattle.ih_commands.specs.Below.Searches.{ImproverState, IsNoWorse, Leads, LegState, MayFollow, Outcome, Span, gap_text, is_better_than, led_to, limit_line, terms_of}
 use Rattle.ih_bound.specs.declared.outcomes.Outcome.TheVariants.{Infeasible, AtLeast}
 use Rattle.ih_changes.specs.Changes.{counted}
 use Rattle.ih_changes.specs.declared.counts.Changes.{Changes}
-use Rattle.ih_improve.specs.Better.{is_better_than}
-use Rattle.ih_improve.specs.Following.{IsNoWorse, MayFollow}
-use Rattle.ih_improve.specs.ImproverState.{ImproverState, Leads, led_to, terms_of}
-use Rattle.ih_improve.specs.Legs.{LegState}
-use Rattle.ih_improve.specs.declared.spans.Span.{Span}
-use Rattle.ih_endings.specs.declared.status.Role.TheVariants.{Out}
-use Rattle.ih_endings.specs.declared.status.Status.TheVariants.{Done, NoneFound}
-use Rattle.ih_endings.specs.Ends.{Unchanged}
-use Rattle.ih_endings.specs.Texts.{none_found_text}
-use Rattle.ih_frame.specs.Outcomes.{OutcomeState, WritingState, says}
 use Rattle.ih_commands.specs.Pacing.{IsNextSpan, least_rounds}
 use Rattle.ih_commands.specs.declared.pacing.Length.{Length}
 use Rattle.ih_commands.specs.declared.pacing.Length.TheVariants.{Attempts, Seconds}

@@ -1,27 +1,9 @@
 -- What a call of improve searches, and how it ends.
 use Rattle.std.specs.Prelude.{◌≡◌, ◌⊎◌, ℕ, Bool, true, false, if◌then◌else◌, List, Option, Some, None, IfSome}
-use Rattle.clap.specs.Words.{Text}
-use Rattle.ih_tables.specs.declared.drafts.Draft.{Draft}
-use Rattle.ih_tables.specs.Bills.{feasible}
-use Rattle.ih_plan.specs.Timetable.{IsPlanOf, Timetable}
-use Rattle.ih_plan.specs.BillOf.{bill_of}
-use Rattle.ih_bound.specs.Bounds.{HoldsOfAll}
-use Rattle.ih_bound.specs.Judging.{HasGap}
-use Rattle.ih_bound.specs.declared.outcomes.Outcome.{Outcome}
-use Rattle.ih_fill.specs.Fill.{fill}
-use Rattle.ih_shelf.specs.Outside.{IfTold, Names, is_there}
-use Rattle.ih_inputs.specs.Reading.{HasInputs, HasOlder}
-use Rattle.ih_improve.specs.Better.{is_better, of_bill}
-use Rattle.ih_improve.specs.Following.{IsNoDearer}
-use Rattle.ih_improve.specs.Given.{AreSettingsOf}
-use Rattle.ih_improve.specs.ImproverState.{ImproverState}
-use Rattle.ih_improve.specs.Legs.{Leaves}
-use Rattle.ih_improve.specs.Pinned.{PinsState, pins_of}
-use Rattle.ih_improve.specs.declared.settings.Settings.{Settings}
-use Rattle.ih_endings.specs.declared.status.Status.{Status}
-use Rattle.ih_endings.specs.declared.status.Status.TheVariants.{StartRefused}
-use Rattle.ih_endings.specs.Ends.{Unchanged}
-use Rattle.ih_frame.specs.Steps.{BegunEnds}
+use Rattle.ih_commands.specs.Below.Wards.{Draft, IsPlanOf, Timetable, bill_of, feasible}
+use Rattle.ih_commands.specs.Below.Arguments.{Text}
+use Rattle.ih_commands.specs.Below.Endings.{BegunEnds, HasInputs, HasOlder, IfTold, Names, StartRefused, Status, Unchanged, is_there}
+use Rattle.ih_commands.specs.Below.Searches.{AreSettingsOf, HasGap, HoldsOfAll, ImproverState, IsNoDearer, Leaves, Outcome, PinsState, Settings, fill, is_better, of_bill, pins_of}
 use Rattle.ih_commands.specs.Calls.Improve.{ImproveCall, improve_inputs, older_of, reading}
 use Rattle.ih_commands.specs.Pacing.{IsLawfulPace, most_rounds}
 use Rattle.ih_commands.specs.Pinning.{first_unknown, unknown_patient, unknown_text}

@@ -1,10 +1,8 @@
 //! The commands, as callers see them, how they are read and how they are done.
 
 ghost use Rattle.std.specs.Prelude.{◌≡◌, ◌≢◌, IfErr, IfOk, None, Some, map, string_bytes, true};
-ghost use Rattle.clap.specs.Words.{app_of, is_simple_and_free};
-ghost use Rattle.ih_arguments.specs.Explaining.{IsExplained, IsRead};
-ghost use Rattle.ih_endings.specs.{Answers.HasShelfCause, Ends.Ends, Ends.HasCause, Ends.Received};
-ghost use Rattle.ih_endings.specs.Texts.{ReceivedPart};
+ghost use Rattle.ih_commands.specs.Below.Arguments.{IsExplained, IsRead, app_of, is_simple_and_free};
+ghost use Rattle.ih_commands.specs.Below.Endings.{Ends, HasCause, HasShelfCause, Received, ReceivedPart};
 ghost use Rattle.ih_commands.specs.Calls.{HasLawfulSettings, app_for, app_named, call_named, call_of, command_call};
 ghost use Rattle.ih_commands.specs.Calls.{program_app};
 ghost use Rattle.ih_commands.specs.Ends.{CallEnds, HasFewPuts};
@@ -95,13 +93,13 @@ fn read_named<'a>(alloc: Global, name: &str, words: &'a [String]) -> Result<Comm
     ensures lawful { IfOk result HasLawfulSettings }
 {
     match name {
-        "improve" => Ok(Command::Improve(read_call(alloc, words)?)),
-        "view" => Ok(Command::View(read_call(alloc, words)?)),
-        "bound" => Ok(Command::Bound(read_call(alloc, words)?)),
-        "check" => Ok(Command::Check(read_call(alloc, words)?)),
-        "carry" => Ok(Command::Carry(read_call(alloc, words)?)),
-        "table" => Ok(Command::Table(read_call(alloc, words)?)),
-        "why" => Ok(Command::Why(read_call(alloc, words)?)),
+        "improve" => Ok(Command::Improve(read_call(alloc, &IMPROVE, words)?)),
+        "view" => Ok(Command::View(read_call(alloc, &VIEW, words)?)),
+        "bound" => Ok(Command::Bound(read_call(alloc, &BOUND, words)?)),
+        "check" => Ok(Command::Check(read_call(alloc, &CHECK, words)?)),
+        "carry" => Ok(Command::Carry(read_call(alloc, &CARRY, words)?)),
+        "table" => Ok(Command::Table(read_call(alloc, &TABLE, words)?)),
+        "why" => Ok(Command::Why(read_call(alloc, &WHY, words)?)),
         _ => Err(explained_commands(alloc, words)),
     }
 }

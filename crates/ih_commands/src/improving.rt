@@ -1,18 +1,13 @@
 //! The command `improve`: a search in rounds, each of which is told as it is over.
 
 ghost use Rattle.std.specs.Prelude.{◌≡◌, ◌+◌, ◌≤◌, IfOk, IfSome, None, map, option_map, unwrap_or};
-ghost use Rattle.ih_plan.specs.Timetable.{IsPlanOf};
-ghost use Rattle.ih_shelf.specs.Outside.{IfTold};
-ghost use Rattle.ih_inputs.specs.Reading.{ArePlans, files_of};
-ghost use Rattle.ih_endings.specs.{Answers.HasShelfCause, Ends.Ends, Ends.HasCause, Ends.Received};
-ghost use Rattle.ih_endings.specs.{Texts.ReceivedPart};
-ghost use Rattle.ih_frame.specs.Steps.{ArePutsAtMost};
+ghost use Rattle.ih_commands.specs.Below.Wards.{IsPlanOf};
+ghost use Rattle.ih_commands.specs.Below.Endings.{ArePlans, ArePutsAtMost, Ends, HasCause, HasShelfCause, IfTold};
+ghost use Rattle.ih_commands.specs.Below.Endings.{IsSaid, Received, ReceivedPart, StartRefused, files_of};
 ghost use Rattle.ih_commands.specs.Calls.Improve.{IsLawfulCall, improve_call, improve_inputs, reading};
 ghost use Rattle.ih_commands.specs.Pacing.{most_rounds};
 ghost use Rattle.ih_commands.specs.Pinning.{first_unknown, unknown_patient, unknown_text};
-ghost use Rattle.ih_endings.specs.Answers.{IsSaid};
-ghost use Rattle.ih_endings.specs.declared.status.Status.TheVariants.{StartRefused};
-ghost use Rattle.ih_commands.specs.Searching.{ImproveEnds, IsLimit, IsSearchFrom, SearchEnds, begun};
+ghost use Rattle.ih_commands.specs.Searching.{ImproveEnds, IsLimit, IsSearchFrom, begun};
 
 use crate::command::bound::DEFAULT_BOUND_ROUNDS;
 use crate::command::improve_words::Improve;
@@ -26,7 +21,7 @@ use ih_frame::go_on;
 use ih_improve::{Improver, Pins, Standing, is_better};
 use ih_inputs::{InputNames, Inputs};
 use ih_plan::{MAX_WORKERS, Plan};
-use ih_shelf::{Finds, Shelf, Sink};
+use ih_shelf::{Finds, Sink};
 use ih_tables::{Fault, Instance, Key, Place, Refusal};
 use ih_validate::bill;
 use std::alloc::{AllocError, Global};
@@ -193,18 +188,20 @@ fn names_of<'a>(call: &Improve<'a>, is_found: bool) -> InputNames<'a>
     }
 }
 
-// Reads the files, that of the solution only where it is found, and searches in rounds.
-fn search<R: Files + Print + Threads + Wait + Sync, S: Shelf, O: Sink, W: Watch>(
+/// Reads the instance, the start and, where it is there and isn't to be replaced, the timetable that the file of the
+/// solution has. Finds what no feasible timetable costs less than, where the call asks for that. Searches in rounds, and
+/// writes the best so far after the first round that has a feasible one better than that, and after each that found a
+/// better one. By the clock it asks the watch between rounds.
+pub(crate) fn improve<R: Files + Print + Threads + Wait + Sync, S: Finds, O: Sink, W: Watch>(
     rt: &R,
     alloc: Global,
     call: &Improve<'_>,
-    is_found: bool,
     shelf: &mut S,
     out: &mut O,
     mut watch: W,
 ) -> Status
     requires { IsLawfulCall (improve_call call.now) }
-    ensures ends { Ends (SearchEnds (reading is_found (improve_call call.now)) (S.names shelf.old) (S.names shelf.new))
+    ensures ends { Ends (ImproveEnds (improve_call call.now) (S.names shelf.old) (S.names shelf.new))
         (HasShelfCause S.Shelf shelf.old shelf.new)
         (Received result (O.text out.old) (O.text out.new) (O.faults out.old) (O.faults out.new))
         (ReceivedPart (O.text out.old) (O.text out.new) (O.lacks out.old) (O.lacks out.new)) result }
@@ -212,6 +209,7 @@ fn search<R: Files + Print + Threads + Wait + Sync, S: Shelf, O: Sink, W: Watch>
     ensures cause { HasCause (S.read_faults shelf.old) (S.read_faults shelf.new) (S.write_faults shelf.old)
         (S.write_faults shelf.new) (O.faults out.old) (O.faults out.new) result }
 {
+    let is_found = shelf.finds(rt, call.out);
     let inputs = match read_or_answer(rt, alloc, &names_of(call, is_found), shelf) {
         Ok(inputs) => inputs,
         Err(answer) => return conclude(rt, out, &answer),
@@ -228,29 +226,4 @@ fn search<R: Files + Print + Threads + Wait + Sync, S: Shelf, O: Sink, W: Watch>
         Ok(mut search) => go_on(rt, alloc, &mut search, call.pace.most_rounds(), shelf, out),
         Err(_) => conclude_memory(rt, out),
     }
-}
-
-/// Reads the instance, the start and, where it is there and isn't to be replaced, the timetable that the file of the
-/// solution has. Finds what no feasible timetable costs less than, where the call asks for that. Searches in rounds, and
-/// writes the best so far after the first round that has a feasible one better than that, and after each that found a
-/// better one. By the clock it asks the watch between rounds.
-pub(crate) fn improve<R: Files + Print + Threads + Wait + Sync, S: Finds, O: Sink, W: Watch>(
-    rt: &R,
-    alloc: Global,
-    call: &Improve<'_>,
-    shelf: &mut S,
-    out: &mut O,
-    watch: W,
-) -> Status
-    requires { IsLawfulCall (improve_call call.now) }
-    ensures ends { Ends (ImproveEnds (improve_call call.now) (S.names shelf.old) (S.names shelf.new))
-        (HasShelfCause S.Shelf shelf.old shelf.new)
-        (Received result (O.text out.old) (O.text out.new) (O.faults out.old) (O.faults out.new))
-        (ReceivedPart (O.text out.old) (O.text out.new) (O.lacks out.old) (O.lacks out.new)) result }
-    ensures few { IfTold (ArePutsAtMost (most_rounds call.now.pace.length call.now.pace.rounds + 1)) (O.puts out.old) (O.puts out.new) }
-    ensures cause { HasCause (S.read_faults shelf.old) (S.read_faults shelf.new) (S.write_faults shelf.old)
-        (S.write_faults shelf.new) (O.faults out.old) (O.faults out.new) result }
-{
-    let is_found = shelf.finds(rt, call.out);
-    search(rt, alloc, call, is_found, shelf, out, watch)
 }

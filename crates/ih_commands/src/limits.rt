@@ -1,7 +1,7 @@
 //! The limits of the words, and what stands for those that are left out.
 
 ghost use Rattle.std.specs.Prelude.{◌≡◌};
-ghost use Rattle.ih_improve.specs.declared.settings.TheConstants.{MAX_KEEP, MAX_ROUNDS};
+ghost use Rattle.ih_commands.specs.Below.Searches.{MAX_KEEP, MAX_ROUNDS};
 ghost use Rattle.ih_commands.specs.declared.command.bound.TheConstants.{DEFAULT_BOUND_ROUNDS, MAX_BOUND_ROUNDS};
 ghost use Rattle.ih_commands.specs.declared.command.improve_words.TheConstants.{DEFAULT_ROUNDS, DEFAULT_SECONDS, DEFAULT_SEED};
 ghost use Rattle.ih_commands.specs.declared.command.improve_words.TheConstants.{DEFAULT_TIMED_ROUNDS};

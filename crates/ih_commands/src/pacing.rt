@@ -1,7 +1,7 @@
 //! How long a search goes on, and what each of its rounds is to do.
 
 ghost use Rattle.std.specs.Prelude.{◌≡◌, ◌+◌, ◌<◌, ◌≤◌, ◌^◌, ◌↔◌, IsTrue};
-ghost use Rattle.ih_improve.specs.ImproverState.{MayGoOn};
+ghost use Rattle.ih_commands.specs.Below.Searches.{MayGoOn};
 ghost use Rattle.ih_commands.specs.Pacing.{IsLawfulPace, IsNextSpan, attempts_through, most_rounds, rounds_left};
 ghost use Rattle.ih_commands.specs.Pacing.{share_of};
 

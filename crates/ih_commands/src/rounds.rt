@@ -1,20 +1,15 @@
 //! A search in rounds: what each round comes to, and what the search comes to at last.
 
 ghost use Rattle.std.specs.Prelude.{◌≡◌, ◌≤◌, ◌&&◌, ◌+◌, ◌++◌, false, true, IfOk, IfSome, OnOk, map, option_map, string_bytes};
-ghost use Rattle.ih_tables.specs.Bills.{feasible};
-ghost use Rattle.ih_plan.specs.{BillOf.bill_of, Timetable.IsPlanOf};
-ghost use Rattle.ih_validate.specs.Report.{report};
-ghost use Rattle.ih_endings.specs.Texts.{none_found_text};
-ghost use Rattle.ih_endings.specs.declared.status.Status.TheVariants.{Done, NoneFound};
-ghost use Rattle.ih_frame.specs.Outcomes.{IsOwnStatus, outcome_of, writing_of};
-ghost use Rattle.ih_improve.specs.{Following.IsNoWorse, ImproverState.ImproverState, ImproverState.IsSound};
-ghost use Rattle.ih_improve.specs.{ImproverState.Leads, ImproverState.MayGoOn, ImproverState.led_to, Legs.Leaves};
-ghost use Rattle.ih_improve.specs.ImproverState.{terms_of};
+ghost use Rattle.ih_commands.specs.Below.Wards.{IsPlanOf, bill_of, feasible, report};
+ghost use Rattle.ih_commands.specs.Below.Endings.{Done, IsOwnStatus, outcome_of, writing_of};
+ghost use Rattle.ih_commands.specs.Below.Searches.{ImproverState, IsNoWorse, IsSound, Leads, Leaves, MayGoOn, led_to};
+ghost use Rattle.ih_commands.specs.Below.Searches.{terms_of};
 ghost use Rattle.ih_commands.specs.Pacing.{IsLawfulPace, rounds_left};
-ghost use Rattle.ih_commands.specs.Rounds.{IsRound, IsSearched, SearchTask, beats, best_text, best_writes, draft_writes, is_new};
-ghost use Rattle.ih_commands.specs.Rounds.{changes_line, changes_text, cost_text, costs_line, end_text, kept_line};
-ghost use Rattle.ih_commands.specs.Rounds.{first_text, gap_so_far, number_text, round_line, round_text, searched};
-ghost use Rattle.ih_commands.specs.Rounds.{time_text};
+ghost use Rattle.ih_commands.specs.Rounds.{IsRound, IsSearched, SearchTask, beats, best_text, best_writes};
+ghost use Rattle.ih_commands.specs.Rounds.{changes_line, changes_text, cost_text, costs_line, draft_writes, end_text};
+ghost use Rattle.ih_commands.specs.Rounds.{first_text, gap_so_far, is_new, kept_line, number_text, round_line};
+ghost use Rattle.ih_commands.specs.Rounds.{round_text, searched, time_text};
 
 use crate::pacing::{Length, Pace, next_span};
 use crate::times::{Times, after_round};
@@ -367,29 +362,6 @@ fn end_text(alloc: Global, inst: &Instance, improver: &Improver<'_>) -> Result<V
     Ok(text)
 }
 
-// None is feasible: what is written and said.
-fn unfound<'a>(
-    alloc: Global,
-    inst: &Instance,
-    draft: Option<&'a str>,
-    improver: &Improver<'_>,
-) -> Result<Outcome<'a>, AllocError>
-    requires { improver.now.instance ≡ inst.now.draft }
-    ensures value { IfOk result (λ o. outcome_of o ≡ record {
-      writes = draft_writes (option_map (λ t. t.now) draft.entry) improver.now;
-      text = none_found_text;
-      status = NoneFound;
-    }) }
-    ensures own { IfOk result (λ o. IsOwnStatus o.status) }
-{
-    let text = String::from_str(alloc, "none found\n")?.into_bytes();
-    Ok(Outcome {
-        writes: draft_writes(alloc, inst, draft, improver)?,
-        text,
-        status: Status::NoneFound,
-    })
-}
-
 impl<'i, 'o, W: Watch> Search<'i, 'o, W> {
     // What is written and said once the search is over, and with which status.
     fn searched(&self, alloc: Global) -> Result<Outcome<'o>, AllocError>
@@ -413,7 +385,11 @@ impl<'i, 'o, W: Watch> Search<'i, 'o, W> {
                 let text = kept_text(alloc, self.inst, self.out, held)?;
                 Ok(Outcome::said(alloc, Status::Done, text))
             }
-            _ => unfound(alloc, self.inst, self.draft, &self.improver),
+            _ => Ok(Outcome {
+                writes: draft_writes(alloc, self.inst, self.draft, &self.improver)?,
+                text: String::from_str(alloc, "none found\n")?.into_bytes(),
+                status: Status::NoneFound,
+            }),
         }
     }
 }

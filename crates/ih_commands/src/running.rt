@@ -1,9 +1,7 @@
 //! The one call that does all that the program does.
 
 ghost use Rattle.std.specs.Prelude.{map, string_bytes};
-ghost use Rattle.ih_shelf.specs.Outside.{Rose};
-ghost use Rattle.ih_endings.specs.{Answers.HasShelfCause, Ends.HasCause, Ends.Received};
-ghost use Rattle.ih_endings.specs.Texts.{ReceivedPart};
+ghost use Rattle.ih_commands.specs.Below.Endings.{HasCause, HasShelfCause, Received, ReceivedPart, Rose};
 ghost use Rattle.ih_commands.specs.Calls.{call_of};
 ghost use Rattle.ih_commands.specs.Ends.{HasFewPuts, IsComplete, IsUntouched, Leaves};
 

@@ -2,26 +2,13 @@
 -- them.
 use Rattle.std.proofs.Common.{◌≡◌, ℕ, refl, sym, ◌∙◌, ap, ap₂, subst, inl, inr, List, Option, Some, None}
 use Rattle.std.specs.Prelude.{Ok}
-use Rattle.ih_tables.specs.declared.drafts.Draft.{Draft}
-use Rattle.ih_plan.specs.Timetable.{Timetable}
-use Rattle.ih_journal.specs.declared.entries.Entry.{Entry}
-use Rattle.ih_tables.specs.declared.journal_refusals.JournalRefusal.{JournalRefusal}
-use Rattle.ih_journal.specs.declared.settings.Options.{Options}
-use Rattle.ih_journal.specs.Base.{Base}
-use Rattle.ih_journal.specs.Tried.{Tried, tries}
-use Rattle.ih_journal.specs.Legal.{IsFull}
-use Rattle.ih_journal.specs.Texts.{heading, lines_from}
+use Rattle.ih_top.specs.Below.Wards.{Draft, JournalRefusal, Timetable}
+use Rattle.ih_top.specs.Below.Arguments.{ReplayCall}
+use Rattle.ih_top.specs.Below.Endings.{EndsUnread, HasInputs, HasNoFault, HasPlan, JournalRefused, Names, OutOfMemory, Status, two_files}
+use Rattle.ih_top.specs.Below.Searches.{Base, Entry, IsFull, Options, Tried, heading, lines_from, started, tries}
 use Rattle.ih_journal.proofs.HeadTexts.{heading_lacks, headings_differ, lawful_short}
-use Rattle.ih_words.specs.Replay.{ReplayCall}
-use Rattle.ih_shelf.specs.Outside.{Names}
-use Rattle.ih_endings.specs.declared.status.Status.{Status}
-use Rattle.ih_endings.specs.declared.status.Status.TheVariants.{JournalRefused, OutOfMemory}
-use Rattle.ih_inputs.specs.Reading.{HasInputs, HasPlan, two_files}
-use Rattle.ih_frame.specs.Ends.{HasNoFault}
 use Rattle.ih_frame.proofs.Complete.{accepted}
 use Rattle.ih_top.specs.Commands.{replay_inputs}
-use Rattle.ih_endings.specs.Inputs.{EndsUnread}
-use Rattle.ih_fill.specs.Starts.{started}
 use Rattle.ih_top.specs.JournalEnds.{IsRefused, JournalEnds}
 use Rattle.ih_top.specs.JournalFiles.{HasRead, JournalRead, IsHeadedBy, IsHeadless}
 use Rattle.ih_top.specs.Laws.{EndsIn}

@@ -2,35 +2,23 @@
 -- such a search end alike, where no fault and no lack of memory ended them; and so do demos.
 use Rattle.std.proofs.Common.{◌≡◌, ◌∙◌, ℕ, refl, sym, ap, ap₂, subst, List, map, Option, Some, None, arith, inl, inr, true, false, ◌<◌, ◌≤◌, Bool, [], length}
 use Rattle.std.specs.Prelude.{Ok, slice_get, ◌≢◌, ◌⊎◌, Result, Err}
-use Rattle.ih_tables.specs.declared.drafts.Draft.{Draft}
-use Rattle.ih_fill.specs.Fill.{fill}
-use Rattle.ih_plan.specs.Timetable.{Timetable, empty}
-use Rattle.ih_journal.specs.declared.entries.Entry.{Entry}
-use Rattle.ih_journal.specs.declared.settings.Options.{Options}
-use Rattle.ih_journal.specs.Base.{Base}
-use Rattle.ih_journal.specs.Texts.{journal}
-use Rattle.ih_journal.specs.Tried.{Tried, tried, tries}
-use Rattle.ih_journal.specs.Legal.{IsFull}
+use Rattle.ih_top.specs.Below.Wards.{Draft, Timetable, empty, instance, plan_in}
+use Rattle.ih_top.specs.Below.Arguments.{SolveCall}
+use Rattle.ih_top.specs.Below.Endings.{Done, EndsUnread, HasInputs, HasNoFault, HasPlan, InputFiles, Instance, InstanceRefused, IsNext, IsUnread, MAX_FILE, Names, NoneFound, OutOfMemory, SaysUnread, Solution, StartRefused, Status}
+use Rattle.ih_top.specs.Below.Endings.{TooLong, Unchanged, bytes_at, instance_refused_text, none_found_text, solution_refused_text, too_long_text, two_files, unread_status}
+use Rattle.ih_top.specs.Below.Searches.{Base, ComesBefore, Entry, HaveNone, IsBestOf, IsFull, Options, Round, Tried, chain_journal, chain_tried, fill, journal, started, tried, tries}
 use Rattle.ih_journal.proofs.BestLemmas.{best-one, best-or-none}
 use Rattle.ih_journal.proofs.LoneWorkers.{lone-same}
 use Rattle.ih_journal.proofs.Mapped.{tries-one}
-use Rattle.ih_words.specs.Solve.{SolveCall}
-use Rattle.ih_shelf.specs.Outside.{Names, bytes_at}
 use Rattle.ih_chain.proofs.EntryTries.{chain_tries-one}
-use Rattle.ih_chain.specs.Entries.{chain_tried}
-use Rattle.ih_chain.specs.Texts.{chain_journal}
 use Rattle.ih_top.specs.Searches.{of_chains, HasBase, SearchForm, of_history, of_moves, HasFoundNone, IsDone, SearchEnds, OthersUnchanged}
 use Rattle.ih_top.specs.Demo.{HasSaid, IsDemo}
-use Rattle.ih_inputs.specs.Reading.{HasPlan, HasInputs, IsNext, IsUnread, InputFiles, two_files}
 use Rattle.ih_top.specs.Laws.{DemosShowTheSame, LoneSearchesAreAlike, LoneSearchesDoTheSame, EndTheSame, LoneSearchesEndAlike}
-use Rattle.ih_fill.specs.Starts.{started}
 use Rattle.ih_top.specs.Texts.{demo_text}
 use Rattle.ih_top.proofs.Accepted.{base-same, same-plan, accepted-two}
 use Rattle.std.proofs.lemmas.Bool.{cases_lt, le-ltb, lt-ltb}
 use Rattle.std.proofs.lemmas.Int.{ints}
 use Rattle.std.proofs.lemmas.List.{length-map}
-use Rattle.ih_rounds.specs.Best.{ComesBefore, HaveNone, IsBestOf}
-use Rattle.ih_rounds.specs.Rounds.{Round}
 use Rattle.ih_rounds.proofs.JournalsApart.{lone-rounds}
 use Rattle.ih_top.specs.Rounds.{IsBestSpot, Spot, of_rounds}
 use Rattle.std.specs.Bool.{Decides}
@@ -38,20 +26,10 @@ use Rattle.std.specs.Str.{bytes_eq}
 use Rattle.std.proofs.Math.Dec.{ltb}
 use Rattle.std.proofs.lemmas.Slice.Eq.{bytes_eq-Decides}
 use Rattle.ih_tables.specs.declared.refusals.Refusal.{Refusal}
-use Rattle.ih_instance.specs.Instance.{instance}
-use Rattle.ih_solution.specs.Reading.{plan_in}
-use Rattle.ih_inputs.specs.declared.reading.TheConstants.{MAX_FILE}
-use Rattle.ih_endings.specs.declared.status.Role.TheVariants.{Instance, Solution}
-use Rattle.ih_endings.specs.declared.status.Status.{Status}
-use Rattle.ih_endings.specs.declared.status.Status.TheVariants.{Done, InstanceRefused, StartRefused, NoneFound, OutOfMemory, TooLong}
 use Rattle.ih_inputs.specs.declared.error.InputError.{InputError}
 use Rattle.ih_inputs.specs.declared.error.InputError.TheVariants.{ReadFault as Unreadable, TooLong as Long, InstanceRefused as NoInstance, NextRefused as NoNext, OlderRefused as NoOlder, SolutionRefused as NoSolution, OutOfMemory as NoRoom}
 use Rattle.ih_inputs.specs.declared.error.InputRole.TheVariants.{Instance as InstanceInput, Journal as JournalInput, Next as NextInput, Older as OlderInput, Solution as SolutionInput}
-use Rattle.ih_frame.specs.Ends.{HasNoFault}
 use Rattle.ih_top.specs.Commands.{solve_inputs}
-use Rattle.ih_endings.specs.Inputs.{EndsUnread, SaysUnread, unread_status}
-use Rattle.ih_endings.specs.Ends.{Unchanged}
-use Rattle.ih_endings.specs.Texts.{instance_refused_text, solution_refused_text, too_long_text, none_found_text}
 use Rattle.ih_endings.proofs.Stopping.{named}
 use Rattle.ih_top.proofs.FaultlessEnds.{search-faultless}
 

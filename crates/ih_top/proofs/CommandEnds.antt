@@ -1,20 +1,12 @@
 -- What the ends of the commands have in common: at each memory may run out before anything is done.
 use Rattle.std.proofs.Common.{◌≡◌, refl, subst, inl, inr, List, ℕ, Option, Some, None}
 use Rattle.std.specs.Prelude.{◌⊎◌, Result, Ok, Err, IfOk}
-use Rattle.ih_words.specs.Generate.{GenCall}
-use Rattle.ih_words.specs.Words.{Call, solve, replay, salvage, check, chain, rounds, gen, demo, advise}
-use Rattle.ih_shelf.specs.Outside.{Names, IfTold}
-use Rattle.ih_endings.specs.declared.status.Status.{Status}
-use Rattle.ih_endings.specs.declared.status.Status.TheVariants.{Usage, OutOfMemory}
+use Rattle.ih_top.specs.Below.Arguments.{Call, GenCall, advise, chain, check, demo, gen, replay, rounds, salvage, solve}
+use Rattle.ih_top.specs.Below.Endings.{Answers, Ends, IfTold, IsConcluded, IsLeft, IsSaid, MadeEnds, Names, OutOfMemory, Status, Unchanged, Usage, memory_text, outcome_of}
 use Rattle.ih_endings.specs.declared.answer.Answer.{Answer}
-use Rattle.ih_endings.specs.Answers.{Answers, IsConcluded, IsSaid}
-use Rattle.ih_endings.specs.Texts.{memory_text}
-use Rattle.ih_endings.specs.Ends.{Unchanged, Ends}
 use Rattle.ih_endings.proofs.Saying.{IsAnswerable, answers-weaker, beside, ended, memory-ended, said-answer, said-status, unsaid-by}
 use Rattle.ih_endings.proofs.Stopping.{unread-memory}
 use Rattle.ih_endings.proofs.Files.{told-same}
-use Rattle.ih_frame.specs.Ends.{MadeEnds}
-use Rattle.ih_frame.specs.Outcomes.{IsLeft, outcome_of}
 use Rattle.ih_frame.specs.declared.outcome.Outcome.{Outcome}
 use Rattle.ih_top.specs.Demo.{DemoEnds}
 use Rattle.ih_top.specs.Ends.{CallEnds, IsUntouched, Leaves, UsageEnds}

@@ -1,26 +1,12 @@
 -- A call whose files are accepted, and in which no count rose, comes to its end.
 use Rattle.std.proofs.Common.{◌≡◌, ℕ, refl, ap, inl, inr, Bool, true, false, List, Option, Some, None}
 use Rattle.std.specs.Prelude.{◌⊎◌}
-use Rattle.ih_tables.specs.Bills.{feasible}
-use Rattle.ih_plan.specs.BillOf.{bill_of}
-use Rattle.ih_journal.specs.declared.entries.Entry.{Entry}
-use Rattle.ih_tables.specs.declared.journal_refusals.JournalRefusal.{JournalRefusal}
-use Rattle.ih_journal.specs.Base.{Base}
-use Rattle.ih_journal.specs.Tried.{Tried}
-use Rattle.ih_words.specs.Advise.{AdviseCall}
-use Rattle.ih_words.specs.Check.{CheckCall}
-use Rattle.ih_words.specs.Generate.{GenCall}
-use Rattle.ih_words.specs.Replay.{ReplayCall}
-use Rattle.ih_words.specs.Words.{Call, solve, replay, salvage, check, chain, rounds, gen, demo, advise}
-use Rattle.ih_shelf.specs.Outside.{Names, Rose}
-use Rattle.ih_endings.specs.declared.status.Status.{Status}
-use Rattle.ih_endings.specs.declared.status.Status.TheVariants.{Done, NoneFound, WriteFault, OutOfMemory}
-use Rattle.ih_inputs.specs.Reading.{Given, HasGiven, InputFiles}
-use Rattle.ih_frame.specs.Ends.{AreAnswers, HasNoFault}
-use Rattle.ih_frame.specs.Outcomes.{OutcomeState}
+use Rattle.ih_top.specs.Below.Wards.{JournalRefusal, bill_of, feasible}
+use Rattle.ih_top.specs.Below.Arguments.{AdviseCall, Call, CheckCall, GenCall, ReplayCall, advise, chain, check, demo, gen, replay, rounds, salvage, solve}
+use Rattle.ih_top.specs.Below.Endings.{AreAnswers, Done, EndsUnread, Given, HasCause, HasGiven, HasNoFault, InputFiles, Names, NoneFound, OutOfMemory, OutcomeState, Rose, Status, WriteFault}
+use Rattle.ih_top.specs.Below.Searches.{Base, Entry, Tried}
 use Rattle.ih_frame.proofs.Complete.{accepted, command-answered, no-fault, reached}
 use Rattle.ih_top.specs.Commands.{advise_inputs, check_inputs, solve_inputs, GenEnds, generated_outcome, IsAdvised, IsChecked, checked_status}
-use Rattle.ih_endings.specs.Inputs.{EndsUnread}
 use Rattle.ih_top.specs.Searches.{of_chains, of_moves}
 use Rattle.ih_top.specs.Rounds.{of_rounds}
 use Rattle.ih_top.specs.Texts.{done_text, salvaged_text}
@@ -28,7 +14,6 @@ use Rattle.ih_top.specs.JournalEnds.{IsRefused, JournalEnds}
 use Rattle.ih_top.specs.JournalFiles.{HasRead, JournalRead, IsHeadless}
 use Rattle.ih_top.specs.JournalUses.{IsRefusedJournal, IsReplay, IsSalvage}
 use Rattle.ih_top.specs.Ends.{CallEnds, Leaves, HasFiles, IsAnswered, IsComplete}
-use Rattle.ih_endings.specs.Ends.{HasCause}
 use Rattle.ih_top.specs.Demo.{DemoEnds}
 use Rattle.ih_top.proofs.Accepted.{journal-accepted, not-headless, not-refused}
 use Rattle.ih_top.proofs.FaultlessEnds.{IsFaultless, journal-faultless, search-faultless}

@@ -1,24 +1,15 @@
 -- How calls end in which no fault came.
 use Rattle.std.proofs.Common.{◌≡◌, ℕ, refl, inl, inr, List, Option}
 use Rattle.std.specs.Prelude.{◌⊎◌}
-use Rattle.ih_journal.specs.declared.entries.Entry.{Entry}
-use Rattle.ih_tables.specs.declared.journal_refusals.JournalRefusal.{JournalRefusal}
-use Rattle.ih_journal.specs.Base.{Base}
-use Rattle.ih_journal.specs.Tried.{Tried, tries}
-use Rattle.ih_words.specs.Replay.{ReplayCall}
-use Rattle.ih_words.specs.Solve.{SolveCall}
-use Rattle.ih_shelf.specs.Outside.{IsWritten, Names, IfTold}
-use Rattle.ih_endings.specs.declared.status.Status.{Status}
-use Rattle.ih_endings.specs.declared.status.Status.TheVariants.{Done, ReadFault, NoneFound, WriteFault, OutOfMemory, JournalRefused}
+use Rattle.ih_top.specs.Below.Wards.{JournalRefusal}
+use Rattle.ih_top.specs.Below.Arguments.{ReplayCall, SolveCall}
+use Rattle.ih_top.specs.Below.Endings.{Done, EndsUnread, HasNoFault, IfTold, IsWritten, JournalRefused, Names, NoneFound, OutOfMemory, ReadFault, Status, Unchanged, WriteFault, none_found_text}
+use Rattle.ih_top.specs.Below.Searches.{Base, Entry, Tried, tries}
 use Rattle.ih_top.specs.Commands.{replay_inputs, solve_inputs}
-use Rattle.ih_endings.specs.Inputs.{EndsUnread}
 use Rattle.ih_top.specs.JournalEnds.{HasBest, HasNoBest, IsRefused, JournalEnds}
 use Rattle.ih_top.specs.JournalFiles.{JournalRead}
-use Rattle.ih_frame.specs.Ends.{HasNoFault}
 use Rattle.ih_top.specs.Searches.{HasFoundNone, IsDone, SearchEnds, SearchForm}
 use Rattle.ih_top.specs.Texts.{journal_refused_text}
-use Rattle.ih_endings.specs.Texts.{none_found_text}
-use Rattle.ih_endings.specs.Ends.{Unchanged}
 
 -- memory ran out, or it is done, or it found none, or it came to something else
 abbrev pub IsFaultless : Type 0 → Type 0 → Type 0 → Status → Type 0

@@ -6,9 +6,7 @@ use Rattle.std.proofs.lemmas.Bool.{eqb-true, ltb-false, ltb-true}
 use Rattle.std.proofs.lemmas.List.{get_or-take, length-append, length-take-le}
 use Rattle.std.proofs.lemmas.List.Elements.{All-from_get_or, All-head, All-tail}
 use Rattle.std.proofs.lemmas.List.Sums.{fails_before_first, passes_at_first, split_at_first}
-use Rattle.ih_journal.specs.declared.settings.Options.{Options}
-use Rattle.ih_journal.specs.Settings.{IsLawful}
-use Rattle.ih_journal.specs.Texts.{ended, heading}
+use Rattle.ih_top.specs.Below.Searches.{IsLawful, Options, ended, heading}
 use Rattle.ih_journal.proofs.HeadTexts.{heading_lacks, lawful_short}
 use Rattle.ih_journal.proofs.Separators.{at_none, at_some}
 use Rattle.ih_top.specs.JournalLines.{HasLine, HasNoLineFeed}

@@ -3,35 +3,19 @@ use Rattle.std.proofs.Common.{◌≡◌, ◌∙◌, ℕ, ◌<◌, ◌^◌, refl,
 use Rattle.std.specs.Prelude.{ℤ, Result, Ok, Err, IfOk}
 use Rattle.std.proofs.lemmas.Bool.{ltb-true}
 use Rattle.std.proofs.lemmas.List.{length-map}
-use Rattle.ih_plan.specs.BillOf.{bill_of}
-use Rattle.ih_tables.specs.declared.drafts.Draft.{Draft}
-use Rattle.ih_plan.specs.Timetable.{IsPlanOf, Timetable, stay_of}
-use Rattle.ih_journal.specs.declared.settings.Options.{Options}
-use Rattle.ih_journal.specs.Settings.{IsLawful}
-use Rattle.ih_journal.specs.Base.{Base}
-use Rattle.ih_journal.specs.Best.{BestIs}
+use Rattle.ih_top.specs.Below.Wards.{Draft, IsPlanOf, Timetable, bill_of, solution, stay_of}
+use Rattle.ih_top.specs.Below.Searches.{AcceptedPricesAreExact, AgreesBefore, Base, BestIs, ChainEntry, Found, IsBase, IsLawful, NoneFound, Options, Round, RoundsEnd, base_in, base_with, chain_journal, chain_tried, chain_tries}
+use Rattle.ih_top.specs.Below.Searches.{journals, plan_at, tries}
 use Rattle.ih_plan.specs.Frozen.{is_before}
 use Rattle.ih_plan.specs.Presence.{day_of}
-use Rattle.ih_journal.specs.Frozen.{AgreesBefore}
-use Rattle.ih_journal.specs.History.{plan_at}
-use Rattle.ih_cellbook.specs.Keeping.{base_with, IsBase}
 use Rattle.ih_cellbook.proofs.Unfrozen.{none-before}
-use Rattle.ih_chain.specs.declared.entries.ChainEntry.{ChainEntry}
-use Rattle.ih_chain.specs.Entries.{chain_tried, chain_tries}
-use Rattle.ih_chain.specs.Texts.{chain_journal}
 use Rattle.ih_chain.specs.Runs.{IsRunOf, ChainRunState, best_plan}
-use Rattle.ih_solution.specs.Solution.{solution}
 use Rattle.ih_top.specs.declared.output.BestOutput.{BestOutput}
 use Rattle.ih_top.specs.declared.output.Output.{Output}
 use Rattle.ih_top.specs.Searches.{of_chains}
 use Rattle.ih_top.specs.Outputs.{IsBestOfRun, HasBestOutput, IsOutput, HasBestMade}
 use Rattle.ih_top.specs.Texts.{found_text}
-use Rattle.ih_journal.specs.Tried.{tries}
-use Rattle.ih_cellbook.specs.Laws.{AcceptedPricesAreExact}
-use Rattle.ih_rounds.specs.declared.running.RoundsEnd.{RoundsEnd}
-use Rattle.ih_rounds.specs.declared.running.RoundsEnd.TheVariants.{Found, NoneFound}
 use Rattle.ih_rounds.specs.Ends.{Ends, HaveRun, IsEnd}
-use Rattle.ih_rounds.specs.Rounds.{Round, base_in, journals}
 use Rattle.ih_rounds.specs.Answers.{Answers}
 use Rattle.ih_top.specs.Rounds.{FitsEnd, IsRoundSaid, round_report, HaveExactPrices, of_rounds}
 

@@ -4,21 +4,15 @@ use Rattle.std.proofs.Common.{◌≡◌, ◌∙◌, ℕ, zero, suc, ◌+◌, ◌
 use Rattle.std.specs.Prelude.{slice_index, unwrap_or, ◌^◌, Bool}
 use Rattle.std.proofs.lemmas.List.{length-map, append-nil, append_cancel_left}
 use Rattle.std.proofs.Math.Nat.{mul-le-mul_right}
-use Rattle.ih_tables.specs.declared.journal_refusals.JournalRefusal.{JournalRefusal}
-use Rattle.ih_journal.specs.declared.settings.Options.{Options}
-use Rattle.ih_journal.specs.Base.{Base}
-use Rattle.ih_journal.specs.Settings.{most_entries}
-use Rattle.ih_journal.specs.Texts.{heading, ended, lines_from}
-use Rattle.ih_cellbook.specs.Legal.{AreLegalButDraws}
+use Rattle.ih_top.specs.Below.Wards.{Extra, IsPlanOf, IsValid, JournalRefusal, Reason}
+use Rattle.ih_top.specs.Below.Arguments.{NamedCallsAreWithinLimits, PlainCall, ReplayCall, chain, rounds}
+use Rattle.ih_top.specs.Below.Endings.{HasNoFault, JournalRefused, MAX_JOURNAL, Names, Status, bytes_at}
+use Rattle.ih_top.specs.Below.Searches.{AreLegalButDraws, Base, ChainJournalsAreShort, Entry, IsBase, IsFull, IsRefusedFor, LegalJournalsAreTaken, LegalJournalsDiffer, Options, Passes, Round, SixteenJournalsAreShort}
+use Rattle.ih_top.specs.Below.Searches.{TakenLinesAreOfLegalHistories, base_in, chain_journal, chain_tried, chain_tries, ended, in_order, lines_from, most_entries, of_entry, of_place, options_in, started, tries}
+use Rattle.ih_journal.specs.Texts.{heading}
 use Rattle.ih_cellbook.proofs.EntryLimits.{legal-few}
-use Rattle.ih_chain.specs.Entries.{chain_tried, chain_tries}
-use Rattle.ih_chain.specs.Laws.{ChainJournalsAreShort}
-use Rattle.ih_chain.specs.Texts.{chain_heading, chain_journal}
+use Rattle.ih_chain.specs.Texts.{chain_heading}
 use Rattle.ih_instance.proofs.DraftSound.{instance_sound}
-use Rattle.ih_words.specs.Replay.{ReplayCall}
-use Rattle.ih_words.specs.Words.{NamedCallsAreWithinLimits, chain, rounds}
-use Rattle.ih_shelf.specs.Outside.{Names, bytes_at}
-use Rattle.ih_inputs.specs.declared.reading.TheConstants.{MAX_JOURNAL}
 use Rattle.ih_top.specs.Laws.{ChainJournalsAreHeadless, ChainJournalsFit, ChainsAreRefused, ComesTo, EndsIn, IsReplayOf, RoundJournalsFit, RoundsAreRefused, RoundsAreSalvaged, second_heading}
 use Rattle.ih_top.specs.JournalEnds.{IsRefused}
 use Rattle.ih_top.specs.JournalFiles.{HasRead, JournalRead, HasNoHeading, IsHeadedBy, IsHeadless, no_heading}
@@ -26,28 +20,12 @@ use Rattle.ih_top.specs.JournalUses.{IsRefusedJournal, IsReplay, IsSalvage, Repl
 use Rattle.ih_top.specs.Texts.{done_text, salvaged_text, journal_refused_text}
 use Rattle.ih_top.proofs.Accepted.{refused-ends, same-bytes, not-headless, same-search}
 use Rattle.std.specs.List.{AllByRecursion}
-use Rattle.ih_tables.specs.Valid.{IsValid}
-use Rattle.ih_plan.specs.Timetable.{IsPlanOf}
-use Rattle.ih_journal.specs.declared.entries.Entry.{Entry}
-use Rattle.ih_tables.specs.declared.journal_refusals.Reason.{Reason}
-use Rattle.ih_tables.specs.declared.journal_refusals.Reason.TheVariants.{Extra}
-use Rattle.ih_journal.specs.Tried.{tries}
-use Rattle.ih_journal.specs.Legal.{IsFull}
 use Rattle.ih_journal.proofs.HeadTexts.{heading_lacks, lawful_short}
-use Rattle.ih_cellbook.specs.Keeping.{IsBase}
-use Rattle.ih_replay.specs.Laws.{LegalJournalsAreTaken, LegalJournalsDiffer, TakenLinesAreOfLegalHistories}
-use Rattle.ih_replay.specs.Refusals.{IsRefusedFor, Passes, in_order, of_entry, of_place}
-use Rattle.ih_rounds.specs.Rounds.{Round, base_in, journals, options_in}
-use Rattle.ih_rounds.specs.Laws.{SixteenJournalsAreShort}
+use Rattle.ih_rounds.specs.Rounds.{journals}
 use Rattle.ih_rounds.proofs.Runs.{lawful-in}
-use Rattle.ih_words.specs.Plain.{PlainCall}
-use Rattle.ih_endings.specs.declared.status.Status.{Status}
-use Rattle.ih_endings.specs.declared.status.Status.TheVariants.{JournalRefused}
 use Rattle.ih_top.specs.JournalLines.{HasLine, IsRefusedAt, IsRestRefused}
-use Rattle.ih_frame.specs.Ends.{HasNoFault}
 use Rattle.ih_top.specs.Rounds.{of_rounds}
 use Rattle.ih_top.specs.Searches.{IsSearch}
-use Rattle.ih_fill.specs.Starts.{started}
 use Rattle.ih_top.proofs.FirstLines.{ended-some, no-line-in}
 use Rattle.ih_top.proofs.JournalLaws.{longest-is, no-longer}
 use Rattle.ih_top.proofs.ReplayedAlike.{has-read-back, read-back, salvage-comes}

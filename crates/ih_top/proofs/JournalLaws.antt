@@ -5,22 +5,15 @@ use Rattle.std.specs.List.{count_by, onto_first}
 use Rattle.std.proofs.lemmas.List.{append-nil, append_cancel_left, length-append, take-append-drop, take_all}
 use Rattle.std.proofs.lemmas.List.Elements.{All-cons, All-nil}
 use Rattle.std.proofs.lemmas.List.Splits.{length-slice_split, slice_split-cons_no, slice_split-cons_yes, slice_split_at, slice_split_none}
-use Rattle.ih_tables.specs.Valid.{IsValid}
-use Rattle.ih_journal.specs.declared.entries.Entry.{Entry}
-use Rattle.ih_tables.specs.declared.journal_refusals.JournalRefusal.{JournalRefusal}
-use Rattle.ih_journal.specs.declared.settings.Options.{Options}
-use Rattle.ih_journal.specs.Base.{Base}
-use Rattle.ih_journal.specs.Tried.{tried, tries}
+use Rattle.ih_top.specs.Below.Wards.{IsValid, JournalRefusal}
+use Rattle.ih_top.specs.Below.Searches.{AreLegal, Base, Entry, IsBase, IsFull, IsLegal, IsNextLine, LegalJournalsAreTaken, LegalJournalsDiffer, Options, TakenLinesAreOfLegalHistories, Takes, ended, line_text, tried, tries}
 use Rattle.ih_journal.specs.Grammar.{parted}
-use Rattle.ih_journal.specs.Legal.{AreLegal, IsFull, IsLegal}
-use Rattle.ih_journal.specs.Texts.{ended, line_text, lines_from}
+use Rattle.ih_journal.specs.Texts.{lines_from}
 use Rattle.ih_journal.proofs.Growth.{attempt-parts, legal-more}
 use Rattle.ih_journal.proofs.Lacking.{parted_same}
 use Rattle.ih_journal.proofs.Mapped.{get-mapped, map-more, map-take}
 use Rattle.ih_journal.proofs.Separators.{parted_some}
-use Rattle.ih_cellbook.specs.Keeping.{IsBase}
-use Rattle.ih_replay.specs.Laws.{LegalJournalsAreTaken, LegalJournalsDiffer, TakenLinesAreOfLegalHistories, Takes, line_texts}
-use Rattle.ih_replay.specs.Refusals.{IsNextLine}
+use Rattle.ih_replay.specs.Laws.{line_texts}
 use Rattle.ih_top.specs.JournalLines.{Begins, HasLine, HasNoLineFeed, IsRefusedAt}
 use Rattle.ih_top.specs.Laws.{RefusedLinesAreNotFull, WholeLinesAreSalvaged}
 use Rattle.ih_top.proofs.FirstLines.{ended-some, first-apart, is_feed, line_here, no_line}

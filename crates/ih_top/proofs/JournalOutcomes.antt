@@ -1,32 +1,21 @@
 -- What a journal comes to, and how the call ends then.
 use Rattle.std.proofs.Common.{ℕ, refl, sym, subst, inl, inr, List, [], ◌∷◌, Option, Some, None}
 use Rattle.std.specs.Prelude.{Result, Ok, Err, IfOk, IfSome, unwrap_or}
-use Rattle.ih_journal.specs.declared.entries.Entry.{Entry}
-use Rattle.ih_tables.specs.declared.journal_refusals.JournalRefusal.{JournalRefusal}
-use Rattle.ih_journal.specs.Base.{Base}
-use Rattle.ih_journal.specs.Tried.{Tried, tries}
-use Rattle.ih_words.specs.Replay.{ReplayCall}
-use Rattle.ih_arguments.specs.Start.{StartCall}
-use Rattle.ih_shelf.specs.Outside.{IsWritten, MayBeWritten, Names, IfTold}
-use Rattle.ih_inputs.specs.Reading.{Given, HasBytes, HasGiven, HasJournal}
+use Rattle.ih_top.specs.Below.Wards.{JournalRefusal}
+use Rattle.ih_top.specs.Below.Arguments.{ReplayCall, StartCall}
+use Rattle.ih_top.specs.Below.Endings.{AreBegun, AreWritten, CommandEnds, Done, Ends, EndsUnread, Given, HasBytes, HasGiven, HasJournal, IfTold, IsLeft, IsOneOf, IsWritten, JournalRefused, MayBeWritten, Names, NoneFound, Out}
+use Rattle.ih_top.specs.Below.Endings.{OutOfMemory, Status, StopsAt, Unchanged, WriteFault, WritingState, none_found_text, unwritten_text, writes_one}
+use Rattle.ih_top.specs.Below.Searches.{Base, Entry, Tried, tries}
 use Rattle.ih_top.specs.declared.output.BestOutput.{BestOutput}
 use Rattle.ih_top.specs.declared.outcome.JournalOutcome.{JournalOutcome}
 use Rattle.ih_top.specs.declared.outcome.JournalOutcome.TheVariants.{Refused, Taken}
-use Rattle.ih_endings.specs.declared.status.Status.{Status}
-use Rattle.ih_endings.specs.declared.status.Status.TheVariants.{Done, NoneFound, WriteFault, OutOfMemory, JournalRefused}
-use Rattle.ih_endings.specs.declared.status.Role.TheVariants.{Out}
-use Rattle.ih_frame.specs.Ends.{CommandEnds}
-use Rattle.ih_frame.specs.Outcomes.{AreBegun, AreWritten, IsLeft, IsOneOf, StopsAt, WritingState, writes_one}
 use Rattle.ih_top.specs.Outputs.{IsOutcome, IsTaken, journal_outcome, IsBestSaid}
 use Rattle.ih_top.specs.JournalEnds.{HasBest, JournalEnds}
 use Rattle.ih_top.specs.Commands.{replay_inputs}
-use Rattle.ih_endings.specs.Inputs.{EndsUnread}
 use Rattle.ih_top.specs.JournalFiles.{HasRead, JournalRead, read_of, IsHeadedBy, IsHeadless}
 use Rattle.ih_top.specs.declared.journals.JournalUse.{JournalUse}
 use Rattle.ih_top.specs.declared.journals.JournalUse.TheVariants.{Replay, Salvage}
 use Rattle.ih_top.specs.JournalUses.{IsJournalUse, IsLinesFor, IsOutcomeFor, JournalUseEnds, refused_for, said_for, taken_for}
-use Rattle.ih_endings.specs.Ends.{Ends, Unchanged}
-use Rattle.ih_endings.specs.Texts.{none_found_text, unwritten_text}
 use Rattle.ih_top.specs.Texts.{journal_refused_text}
 use Rattle.ih_endings.proofs.Files.{told-weaker}
 use Rattle.ih_endings.proofs.Stopping.{unread-lack, unread-only}

@@ -1,14 +1,9 @@
 -- What is left of an outcome, by its cases, and what that means where it writes one file at most.
 use Rattle.std.proofs.Common.{◌∙◌, ℕ, sym, subst, inl, inr, List, [], ◌∷◌, Option, Some}
-use Rattle.ih_shelf.specs.Outside.{IfTold, IsWritten, MayBeWritten, Names}
-use Rattle.ih_endings.specs.declared.status.Status.{Status}
-use Rattle.ih_endings.specs.declared.status.Status.TheVariants.{OutOfMemory, WriteFault}
-use Rattle.ih_endings.specs.Answers.{unsaid}
-use Rattle.ih_endings.specs.Ends.{Ends, Unchanged}
-use Rattle.ih_endings.specs.Texts.{memory_text, unwritten_text}
+use Rattle.ih_top.specs.Below.Endings.{AreBegun, AreWritten, Ends, IfTold, IsLeft, IsOneOf, IsStatusOf, IsStopped, IsWritten, MayBeWritten, Names, OutOfMemory, OutcomeState, Status, StopsAt, Unchanged, WriteFault, WritingState}
+use Rattle.ih_top.specs.Below.Endings.{memory_text, says, unsaid, unwritten_text}
 use Rattle.ih_endings.proofs.Files.{told-weaker, whole-text}
 use Rattle.ih_endings.proofs.Later.{ends-later}
-use Rattle.ih_frame.specs.Outcomes.{AreBegun, AreWritten, IsLeft, IsOneOf, IsStatusOf, IsStopped, OutcomeState, StopsAt, WritingState, says}
 
 -- each end of a family is one of another
 pub ends-weaker : (small large : Status → List ℕ → Type 0) (cause : Status → Type 0) (received part : List ℕ → Type 0)

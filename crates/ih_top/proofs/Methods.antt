@@ -1,22 +1,17 @@
 -- How a call that searches ends, by its method.
 use Rattle.std.proofs.Common.{ℕ, refl, subst, inl, inr, List, Option}
 use Rattle.std.specs.Prelude.{◌≢◌}
-use Rattle.ih_journal.specs.Base.{Base}
-use Rattle.ih_words.specs.Solve.{SolveCall}
-use Rattle.ih_shelf.specs.Outside.{Names, IfTold}
+use Rattle.ih_top.specs.Below.Arguments.{SolveCall}
+use Rattle.ih_top.specs.Below.Endings.{CommandEnds, Ends, EndsUnread, IfTold, IsLeft, Names, Status, Unchanged}
+use Rattle.ih_top.specs.Below.Searches.{Base}
 use Rattle.ih_top.specs.declared.output.Output.{Output}
 use Rattle.ih_top.specs.declared.searching.Method.{Method}
 use Rattle.ih_top.specs.declared.searching.Method.TheVariants.{Moves, Chains, Rounds}
-use Rattle.ih_endings.specs.declared.status.Status.{Status}
-use Rattle.ih_frame.specs.Ends.{CommandEnds}
-use Rattle.ih_frame.specs.Outcomes.{IsLeft}
 use Rattle.ih_top.specs.Searches.{of_chains, HasBase, of_moves}
 use Rattle.ih_top.specs.Commands.{solve_inputs}
-use Rattle.ih_endings.specs.Inputs.{EndsUnread}
 use Rattle.ih_top.specs.Methods.{IsMade, IsSearched, MethodEnds}
 use Rattle.ih_top.specs.Outputs.{base_from, search_outcome}
 use Rattle.ih_top.specs.Rounds.{of_rounds}
-use Rattle.ih_endings.specs.Ends.{Ends, Unchanged}
 use Rattle.ih_top.proofs.Leaving.{ends-weaker}
 use Rattle.ih_top.proofs.Writing.{search-left, unread-search}
 

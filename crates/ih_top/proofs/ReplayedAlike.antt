@@ -2,40 +2,21 @@
 use Rattle.std.proofs.Common.{◌≡◌, ◌∙◌, ℕ, ◌≤◌, refl, sym, ap, ap₂, subst, arith, inl, inr, List, [], ◌++◌, length, Option, Some, None}
 use Rattle.std.proofs.lemmas.List.{append-nil, length-map}
 use Rattle.std.specs.Prelude.{Bool, unwrap_or}
-use Rattle.ih_tables.specs.Valid.{IsValid}
-use Rattle.ih_journal.specs.declared.entries.Entry.{Entry}
-use Rattle.ih_tables.specs.declared.journal_refusals.JournalRefusal.{JournalRefusal}
-use Rattle.ih_journal.specs.Base.{Base}
-use Rattle.ih_journal.specs.Tried.{Tried, tried, tries}
-use Rattle.ih_journal.specs.Best.{HasNone, IsBest}
-use Rattle.ih_journal.specs.Legal.{IsFull}
-use Rattle.ih_journal.specs.Texts.{journal, lines_from}
+use Rattle.ih_top.specs.Below.Wards.{IsValid, JournalRefusal, instance, plan_in}
+use Rattle.ih_top.specs.Below.Arguments.{ReplayCall, SolveCall}
+use Rattle.ih_top.specs.Below.Endings.{Done, HasInstance, HasNoFault, HasPlan, MAX_FILE, MAX_JOURNAL, Names, NoneFound, Status, bytes_at, none_found_text}
+use Rattle.ih_top.specs.Below.Searches.{AreLegalButDraws, Base, Entry, HasNone, IsBase, IsBest, IsFull, LegalJournalsAreShort, LegalJournalsAreTaken, LegalJournalsDiffer, TakenLinesAreOfLegalHistories, Tried, journal, lines_from}
+use Rattle.ih_top.specs.Below.Searches.{started, tried, tries}
 use Rattle.ih_journal.proofs.BestLemmas.{best-one, best-or-none}
-use Rattle.ih_cellbook.specs.Keeping.{IsBase}
-use Rattle.ih_cellbook.specs.Laws.{LegalJournalsAreShort}
-use Rattle.ih_cellbook.specs.Legal.{AreLegalButDraws}
 use Rattle.ih_cellbook.proofs.EntryLimits.{legal-few}
-use Rattle.ih_instance.specs.Instance.{instance}
 use Rattle.ih_instance.proofs.DraftSound.{instance_sound}
-use Rattle.ih_solution.specs.Reading.{plan_in}
-use Rattle.ih_replay.specs.Laws.{LegalJournalsAreTaken, LegalJournalsDiffer, TakenLinesAreOfLegalHistories}
-use Rattle.ih_words.specs.Replay.{ReplayCall}
-use Rattle.ih_words.specs.Solve.{SolveCall}
-use Rattle.ih_shelf.specs.Outside.{Names, bytes_at}
-use Rattle.ih_inputs.specs.declared.reading.TheConstants.{MAX_FILE, MAX_JOURNAL}
-use Rattle.ih_endings.specs.declared.status.Status.{Status}
-use Rattle.ih_endings.specs.declared.status.Status.TheVariants.{Done, NoneFound}
-use Rattle.ih_inputs.specs.Reading.{HasInstance, HasPlan}
 use Rattle.ih_top.specs.JournalLines.{Begins}
-use Rattle.ih_frame.specs.Ends.{HasNoFault}
 use Rattle.ih_top.specs.Laws.{ComesTo, EndsIn, HaveSameBytes, IsReplayOf, JournalsFit, SolvesReplayTheSame, SolvesWithNoneReplayTheSame}
 use Rattle.ih_top.specs.JournalEnds.{IsRefused, JournalEnds}
 use Rattle.ih_top.specs.JournalFiles.{HasRead, JournalRead, IsHeadedBy, IsHeadless}
 use Rattle.ih_top.specs.JournalUses.{IsRefusedJournal, IsReplay, ReplayEnds, IsSalvage, SalvageEnds}
 use Rattle.ih_top.specs.Searches.{HasBase, IsSearch, solution_at, of_moves}
-use Rattle.ih_fill.specs.Starts.{started}
 use Rattle.ih_top.specs.Texts.{done_text, salvaged_line, salvaged_text}
-use Rattle.ih_endings.specs.Texts.{none_found_text}
 use Rattle.ih_top.proofs.Accepted.{journal-accepted, not-headless, not-refused, same-search}
 use Rattle.ih_top.proofs.FaultlessEnds.{journal-faultless}
 use Rattle.ih_top.proofs.JournalLaws.{longest-is}

@@ -2,19 +2,12 @@
 use Rattle.std.proofs.Common.{◌≡◌, ◌∙◌, ℕ, ◌+◌, sym, ap, subst, inl, arith, List, [], ◌∷◌, ◌++◌, append_assoc, length, ap₂, inr, Option}
 use Rattle.std.specs.Prelude.{Result, Ok, Err, IfErr}
 use Rattle.std.proofs.lemmas.List.{append-nil}
-use Rattle.ih_journal.specs.declared.entries.Entry.{Entry}
-use Rattle.ih_tables.specs.declared.journal_refusals.JournalRefusal.{JournalRefusal}
-use Rattle.ih_journal.specs.declared.settings.Options.{Options}
-use Rattle.ih_journal.specs.Base.{Base}
-use Rattle.ih_journal.specs.Tried.{tries, Tried}
-use Rattle.ih_journal.specs.Legal.{AreLegal, IsFull}
-use Rattle.ih_journal.specs.Texts.{ended, line_text, lines_from}
+use Rattle.ih_top.specs.Below.Wards.{IsValid, JournalRefusal}
+use Rattle.ih_top.specs.Below.Searches.{AreLegal, Base, Entry, IsBase, IsFull, IsNextLine, IsRefusedFor, Options, Tried, ended, line_text, tries}
+use Rattle.ih_journal.specs.Texts.{lines_from}
 use Rattle.ih_journal.proofs.Growth.{legal-none}
-use Rattle.ih_replay.specs.Refusals.{IsNextLine, IsRefusedFor}
 use Rattle.ih_top.specs.JournalLines.{Begins, HasLine, HasNoLineFeed, IsRefusedAt, IsRestRefused}
 use Rattle.ih_top.proofs.FirstLines.{no-line-in, one-line}
-use Rattle.ih_tables.specs.Valid.{IsValid}
-use Rattle.ih_cellbook.specs.Keeping.{IsBase}
 use Rattle.ih_top.specs.declared.output.BestOutput.{BestOutput}
 use Rattle.ih_top.specs.Histories.{IsSound}
 use Rattle.ih_top.specs.Laws.{RefusedLinesAreNotFull}

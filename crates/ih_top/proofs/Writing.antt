@@ -1,21 +1,15 @@
 -- What the two writes of a search leave, and how its call ends.
 use Rattle.std.proofs.Common.{◌≡◌, ℕ, sym, ap, ◌∙◌, subst, refl, inl, inr, List, [], ◌∷◌, Option, Some, None}
 use Rattle.std.specs.Prelude.{◌≢◌, ◌⊎◌}
-use Rattle.ih_shelf.specs.Outside.{Names, IfTold, PartOr, IsWritten, MayBeWritten}
-use Rattle.ih_words.specs.Solve.{SolveCall}
-use Rattle.ih_journal.specs.Base.{Base}
+use Rattle.ih_top.specs.Below.Arguments.{SolveCall}
+use Rattle.ih_top.specs.Below.Endings.{AreBegun, AreWritten, EndsUnread, IfTold, InstanceRefused, IsLeft, IsOneOf, IsWritten, Journal, MayBeWritten, Names, NoneFound, Out, OutOfMemory, PartOr, ReadFault, StartRefused, Status}
+use Rattle.ih_top.specs.Below.Endings.{StopsAt, TooLong, Unchanged, WriteFault, WritingState, none_found_text, unwritten_text}
+use Rattle.ih_top.specs.Below.Searches.{Base}
 use Rattle.ih_top.specs.declared.output.Output.{Output}
 use Rattle.ih_top.specs.declared.output.BestOutput.{BestOutput}
-use Rattle.ih_endings.specs.declared.status.Role.TheVariants.{Journal, Out}
-use Rattle.ih_endings.specs.declared.status.Status.{Status}
-use Rattle.ih_endings.specs.declared.status.Status.TheVariants.{ReadFault, InstanceRefused, StartRefused, NoneFound, WriteFault, OutOfMemory, TooLong}
-use Rattle.ih_frame.specs.Outcomes.{AreBegun, AreWritten, IsLeft, IsOneOf, StopsAt, WritingState}
 use Rattle.ih_top.specs.Outputs.{HasBestMade, IsOutput, IsSaidBest, journal_writing, search_outcome, solution_writing}
 use Rattle.ih_top.specs.Searches.{HasBase, IsSearch, HasSearched, HasFoundBest, HasBegun, HasFound, IsDone, SearchEnds, SearchForm, BeginsJournal, WritesJournal, BeginsSolution, WritesBoth}
 use Rattle.ih_top.specs.Commands.{solve_inputs}
-use Rattle.ih_endings.specs.Inputs.{EndsUnread}
-use Rattle.ih_endings.specs.Ends.{Unchanged}
-use Rattle.ih_endings.specs.Texts.{unwritten_text, none_found_text}
 use Rattle.ih_endings.proofs.Files.{told-weaker}
 use Rattle.ih_endings.proofs.Stopping.{unread-lack, unread-only}
 use Rattle.ih_top.proofs.Leaving.{left-by, one-begun, one-stopped, one-written, written-begun}

@@ -1,25 +1,12 @@
 -- The files that each command reads before anything else, and what the calls come to that don't search: check, advise
 -- and gen.
 use Rattle.std.specs.Prelude.{Some, ◌≡◌, Bool, true, false, ℕ, ◌⊎◌, List, [], Option}
-use Rattle.ih_words.specs.Advise.{AdviseCall}
-use Rattle.ih_words.specs.Check.{CheckCall}
-use Rattle.ih_words.specs.Replay.{ReplayCall}
-use Rattle.ih_words.specs.Solve.{SolveCall}
-use Rattle.ih_inputs.specs.Reading.{InputFiles, two_files, Given}
-use Rattle.ih_tables.specs.Bills.{feasible}
-use Rattle.ih_plan.specs.BillOf.{bill_of}
-use Rattle.ih_validate.specs.Report.{report}
-use Rattle.ih_endings.specs.declared.status.Status.{Status}
-use Rattle.ih_endings.specs.declared.status.Status.TheVariants.{Done, Infeasible, OutOfMemory}
-use Rattle.ih_frame.specs.Outcomes.{OutcomeState, says, IsLeft, writes_one}
+use Rattle.ih_top.specs.Below.Wards.{bill_of, feasible, report}
+use Rattle.ih_top.specs.Below.Arguments.{AdviseCall, CheckCall, GenCall, ReplayCall, SolveCall}
+use Rattle.ih_top.specs.Below.Endings.{Done, Given, IfTold, Infeasible, InputFiles, IsLeft, Names, Out, OutOfMemory, OutcomeState, Status, Unchanged, memory_text, says, two_files, writes_one}
 use Rattle.ih_advise.specs.Advising.{advice}
 use Rattle.ih_advise.specs.Texts.{advice_text}
 use Rattle.ih_gen.specs.Generated.{generated}
-use Rattle.ih_words.specs.Generate.{GenCall}
-use Rattle.ih_shelf.specs.Outside.{Names, IfTold}
-use Rattle.ih_endings.specs.declared.status.Role.TheVariants.{Out}
-use Rattle.ih_endings.specs.Ends.{Unchanged}
-use Rattle.ih_endings.specs.Texts.{memory_text}
 
 abbrev pub solve_inputs : SolveCall → InputFiles
 solve_inputs s = two_files s.instance s.start.file

@@ -1,20 +1,9 @@
 -- How a call of demo ends: what it had to say, by its status. It reads and writes no file.
 use Rattle.std.specs.Prelude.{◌≡◌, ℕ, List, length, Option, Some, None, Ok}
-use Rattle.ih_fill.specs.Fill.{fill}
-use Rattle.ih_plan.specs.Timetable.{empty}
-use Rattle.ih_journal.specs.declared.entries.Entry.{Entry}
-use Rattle.ih_journal.specs.declared.settings.Options.{Options}
-use Rattle.ih_journal.specs.Attempts.{is_stale}
-use Rattle.ih_journal.specs.Base.{Base}
-use Rattle.ih_journal.specs.Tried.{tries}
-use Rattle.ih_journal.specs.Best.{HasNone, IsBest}
-use Rattle.ih_journal.specs.Legal.{IsFull}
-use Rattle.ih_cellbook.specs.Legal.{AreExact}
+use Rattle.ih_top.specs.Below.Wards.{empty, instance}
+use Rattle.ih_top.specs.Below.Endings.{Done, NoneFound, OutOfMemory, Status, WriteFault, memory_text, none_found_text}
+use Rattle.ih_top.specs.Below.Searches.{AreExact, Base, Entry, HasNone, IsBest, IsFull, Options, fill, is_stale, tries}
 use Rattle.ih_gen.specs.Generated.{generated}
-use Rattle.ih_instance.specs.Instance.{instance}
-use Rattle.ih_endings.specs.declared.status.Status.{Status}
-use Rattle.ih_endings.specs.declared.status.Status.TheVariants.{Done, NoneFound, WriteFault, OutOfMemory}
-use Rattle.ih_endings.specs.Texts.{memory_text, none_found_text}
 use Rattle.ih_top.specs.Texts.{demo_text, verdicts_of}
 
 -- one worker with the number as its seed

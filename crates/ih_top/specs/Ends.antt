@@ -1,24 +1,14 @@
 -- How a call of the program ends: what it then has read, written and said, by its status.
 use Rattle.std.specs.Prelude.{◌≡◌, ℕ, ◌⊎◌, List, Option, Some, None}
-use Rattle.ih_journal.specs.declared.entries.Entry.{Entry}
-use Rattle.ih_journal.specs.Base.{Base}
-use Rattle.ih_journal.specs.Tried.{tries}
-use Rattle.ih_journal.specs.Legal.{IsFull}
-use Rattle.ih_journal.specs.Texts.{lines_from}
-use Rattle.ih_words.specs.Words.{Call, solve, replay, salvage, check, chain, rounds, gen, demo, advise}
-use Rattle.ih_shelf.specs.Outside.{Names, IfTold}
-use Rattle.ih_endings.specs.declared.status.Status.{Status}
-use Rattle.ih_endings.specs.declared.status.Status.TheVariants.{Done, Usage, NoneFound, OutOfMemory, Infeasible}
+use Rattle.ih_top.specs.Below.Arguments.{Call, advise, chain, check, demo, gen, replay, rounds, salvage, solve}
+use Rattle.ih_top.specs.Below.Endings.{CommandEnds, Done, Ends, Given, HasGiven, IfTold, Infeasible, InputFiles, Names, NoneFound, OutOfMemory, Status, Unchanged, Usage, memory_text}
+use Rattle.ih_top.specs.Below.Searches.{Base, Entry, IsFull, lines_from, tries}
 use Rattle.ih_top.specs.Commands.{IsAdvised, advise_inputs, check_inputs, solve_inputs, IsChecked, GenEnds}
-use Rattle.ih_endings.specs.Ends.{Ends, Unchanged}
-use Rattle.ih_inputs.specs.Reading.{Given, HasGiven, InputFiles}
-use Rattle.ih_frame.specs.Ends.{CommandEnds}
 use Rattle.ih_top.specs.Searches.{SolveEnds, ChainEnds}
 use Rattle.ih_top.specs.JournalFiles.{HasRead, JournalRead, IsHeadedBy}
 use Rattle.ih_top.specs.JournalUses.{ReplayEnds, SalvageEnds}
 use Rattle.ih_top.specs.Rounds.{RoundsEnds}
 use Rattle.ih_top.specs.Demo.{DemoEnds}
-use Rattle.ih_endings.specs.Texts.{memory_text}
 use Rattle.ih_top.specs.Texts.{usage_text}
 
 -- ---- a call with lawful words

@@ -1,18 +1,10 @@
 -- What a search starts from, by the files and the words, and what holds of each history that the program makes, or
 -- takes from a journal.
 use Rattle.std.specs.Prelude.{◌≡◌, ℕ, List, Option}
-use Rattle.ih_tables.specs.declared.drafts.Draft.{Draft}
-use Rattle.ih_plan.specs.Timetable.{Timetable}
-use Rattle.ih_journal.specs.Base.{Base}
-use Rattle.ih_arguments.specs.Start.{StartCall}
-use Rattle.ih_shelf.specs.Outside.{Names}
-use Rattle.ih_inputs.specs.Reading.{HasInputs, two_files}
-use Rattle.ih_fill.specs.Starts.{started}
-use Rattle.ih_journal.specs.Tried.{Tried}
-use Rattle.ih_journal.specs.Frozen.{AgreesBefore}
-use Rattle.ih_journal.specs.History.{plan_at}
-use Rattle.ih_cellbook.specs.Keeping.{IsBase}
-use Rattle.ih_cellbook.specs.Legal.{AreExact}
+use Rattle.ih_top.specs.Below.Wards.{Draft, Timetable}
+use Rattle.ih_top.specs.Below.Arguments.{StartCall}
+use Rattle.ih_top.specs.Below.Endings.{HasInputs, Names, two_files}
+use Rattle.ih_top.specs.Below.Searches.{AgreesBefore, AreExact, Base, IsBase, Tried, plan_at, started}
 
 -- A search begins as the words say, on an instance and with a timetable that was read. The fill takes the weight of a
 -- broken rule from the options.

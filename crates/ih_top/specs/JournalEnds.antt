@@ -1,20 +1,11 @@
 -- How a call ends that takes a history from a journal: what it then has read and written, and what it had to say, by
 -- its status.
 use Rattle.std.specs.Prelude.{◌≡◌, ℕ, ◌⊎◌, List, Option, Some, None}
-use Rattle.ih_journal.specs.declared.entries.Entry.{Entry}
-use Rattle.ih_tables.specs.declared.journal_refusals.JournalRefusal.{JournalRefusal}
-use Rattle.ih_journal.specs.Base.{Base}
-use Rattle.ih_journal.specs.Tried.{Tried, tries}
-use Rattle.ih_journal.specs.Best.{IsBest, HasNone}
-use Rattle.ih_words.specs.Replay.{ReplayCall}
-use Rattle.ih_shelf.specs.Outside.{IsWritten, MayBeWritten, Names, IfTold}
-use Rattle.ih_endings.specs.declared.status.Status.{Status}
-use Rattle.ih_endings.specs.declared.status.Status.TheVariants.{Done, NoneFound, WriteFault, OutOfMemory, JournalRefused}
-use Rattle.ih_endings.specs.declared.status.Role.TheVariants.{Out}
+use Rattle.ih_top.specs.Below.Wards.{JournalRefusal}
+use Rattle.ih_top.specs.Below.Arguments.{ReplayCall}
+use Rattle.ih_top.specs.Below.Endings.{Done, EndsUnread, IfTold, IsWritten, JournalRefused, MayBeWritten, Names, NoneFound, Out, OutOfMemory, Status, Unchanged, WriteFault, memory_text, none_found_text, unwritten_text}
+use Rattle.ih_top.specs.Below.Searches.{Base, Entry, HasNone, IsBest, Tried, tries}
 use Rattle.ih_top.specs.Searches.{solution_at}
-use Rattle.ih_endings.specs.Ends.{Unchanged}
-use Rattle.ih_endings.specs.Inputs.{EndsUnread}
-use Rattle.ih_endings.specs.Texts.{memory_text, unwritten_text, none_found_text}
 use Rattle.ih_top.specs.Texts.{journal_refused_text}
 use Rattle.ih_top.specs.Commands.{replay_inputs}
 use Rattle.ih_top.specs.JournalFiles.{JournalRead, HasRead}

@@ -1,19 +1,11 @@
 -- The files that replay and salvage read, an instance, a start and a journal, and what a journal is headed by.
 use Rattle.std.specs.Prelude.{ℕ, List, [], unwrap_or, Option, IfSome, ◌≡◌, ◌<◌, ◌^◌, ◌++◌}
-use Rattle.ih_tables.specs.declared.drafts.Draft.{Draft}
-use Rattle.ih_plan.specs.Timetable.{Timetable}
-use Rattle.ih_words.specs.Replay.{ReplayCall}
-use Rattle.ih_shelf.specs.Outside.{Names}
+use Rattle.ih_top.specs.Below.Wards.{Draft, Heading, JournalRefusal, Timetable}
+use Rattle.ih_top.specs.Below.Arguments.{ReplayCall, StartCall}
+use Rattle.ih_top.specs.Below.Endings.{Given, HasBytes, HasInputs, Names}
+use Rattle.ih_top.specs.Below.Searches.{Base, IsLawful, Options, ended, heading}
 use Rattle.ih_inputs.specs.declared.reading.Inputs.{Inputs}
-use Rattle.ih_inputs.specs.Reading.{Given, HasBytes, HasInputs}
 use Rattle.ih_top.specs.Commands.{replay_inputs}
-use Rattle.ih_tables.specs.declared.journal_refusals.JournalRefusal.{JournalRefusal}
-use Rattle.ih_tables.specs.declared.journal_refusals.Reason.TheVariants.{Heading}
-use Rattle.ih_journal.specs.declared.settings.Options.{Options}
-use Rattle.ih_journal.specs.Base.{Base}
-use Rattle.ih_journal.specs.Settings.{IsLawful}
-use Rattle.ih_journal.specs.Texts.{ended, heading}
-use Rattle.ih_arguments.specs.Start.{StartCall}
 use Rattle.ih_top.specs.Histories.{IsStarted}
 
 -- an instance, the timetable of the start before it is filled, and the bytes of a journal

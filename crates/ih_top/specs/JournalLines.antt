@@ -1,14 +1,7 @@
 -- What a journal's bytes still tell, and why they are refused as a whole journal.
 use Rattle.std.specs.Prelude.{◌≡◌, ◌≢◌, ◌==◌, ℕ, ◌+◌, ◌⊎◌, false, List, [], ◌++◌, All, length}
-use Rattle.ih_journal.specs.declared.entries.Entry.{Entry}
-use Rattle.ih_tables.specs.declared.journal_refusals.JournalRefusal.{JournalRefusal}
-use Rattle.ih_tables.specs.declared.journal_refusals.Reason.{Reason}
-use Rattle.ih_tables.specs.declared.journal_refusals.Reason.TheVariants.{Extra, Grammar, Early}
-use Rattle.ih_journal.specs.Base.{Base}
-use Rattle.ih_journal.specs.Tried.{tries}
-use Rattle.ih_journal.specs.Legal.{AreLegal, IsFull}
-use Rattle.ih_journal.specs.Texts.{ended, lines_from}
-use Rattle.ih_replay.specs.Refusals.{IsGoing, IsNextLine, IsRefusedFor}
+use Rattle.ih_top.specs.Below.Wards.{Early, Extra, Grammar, JournalRefusal, Reason}
+use Rattle.ih_top.specs.Below.Searches.{AreLegal, Base, Entry, IsFull, IsGoing, IsNextLine, IsRefusedFor, ended, lines_from, tries}
 
 -- the bytes have no line feed
 abbrev pub HasNoLineFeed : List ℕ → Type 0

@@ -1,16 +1,10 @@
 -- What a journal is read for: which histories are taken from it, how it is refused, what is said of it, and how the call
 -- ends.
 use Rattle.std.specs.Prelude.{◌≡◌, ℕ, ◌⊎◌, List, Option}
-use Rattle.ih_journal.specs.declared.entries.Entry.{Entry}
-use Rattle.ih_tables.specs.declared.journal_refusals.JournalRefusal.{JournalRefusal}
-use Rattle.ih_journal.specs.Base.{Base}
-use Rattle.ih_journal.specs.Tried.{tries, Tried}
-use Rattle.ih_journal.specs.Legal.{IsFull}
-use Rattle.ih_journal.specs.Texts.{lines_from}
-use Rattle.ih_words.specs.Replay.{ReplayCall}
-use Rattle.ih_arguments.specs.Start.{StartCall}
-use Rattle.ih_shelf.specs.Outside.{Names}
-use Rattle.ih_endings.specs.declared.status.Status.{Status}
+use Rattle.ih_top.specs.Below.Wards.{JournalRefusal}
+use Rattle.ih_top.specs.Below.Arguments.{ReplayCall, StartCall}
+use Rattle.ih_top.specs.Below.Endings.{Given, Names, OutcomeState, Status}
+use Rattle.ih_top.specs.Below.Searches.{Base, Entry, IsFull, Tried, lines_from, tries}
 use Rattle.ih_top.specs.Histories.{IsSound}
 use Rattle.ih_top.specs.JournalLines.{IsRefusedAt, Begins}
 use Rattle.ih_top.specs.Texts.{done_text, salvaged_text}
@@ -19,8 +13,6 @@ use Rattle.ih_top.specs.JournalFiles.{JournalRead, IsHeadedBy, IsHeadless, read_
 use Rattle.ih_top.specs.declared.journals.JournalUse.{JournalUse}
 use Rattle.ih_top.specs.declared.journals.JournalUse.TheVariants.{Replay, Salvage}
 use Rattle.ih_top.specs.declared.outcome.JournalOutcome.{JournalOutcome}
-use Rattle.ih_inputs.specs.Reading.{Given}
-use Rattle.ih_frame.specs.Outcomes.{OutcomeState}
 use Rattle.ih_top.specs.Outputs.{IsOutcome, journal_outcome}
 
 -- the journal is that of a full history of the search

@@ -1,29 +1,10 @@
 -- Laws of journals and of calls of the program.
 use Rattle.std.specs.Prelude.{◌≡◌, ◌≢◌, ◌≤◌, ◌+◌, ◌==◌, ◌⊎◌, ℕ, List, ◌∷◌, ◌++◌, length, Option, Some, None}
 use Rattle.std.specs.List.{count_by}
-use Rattle.ih_tables.specs.Valid.{IsValid}
-use Rattle.ih_journal.specs.declared.entries.Entry.{Entry}
-use Rattle.ih_tables.specs.declared.journal_refusals.JournalRefusal.{JournalRefusal}
-use Rattle.ih_tables.specs.declared.journal_refusals.Reason.TheVariants.{Extra}
-use Rattle.ih_journal.specs.declared.settings.Options.{Options}
-use Rattle.ih_journal.specs.Base.{Base}
-use Rattle.ih_journal.specs.Best.{HasNone, IsBest}
-use Rattle.ih_journal.specs.Tried.{Tried, tries}
-use Rattle.ih_journal.specs.Legal.{AreLegal}
-use Rattle.ih_journal.specs.Texts.{journal, lines_from}
-use Rattle.ih_cellbook.specs.Keeping.{IsBase}
-use Rattle.ih_chain.specs.declared.entries.ChainEntry.{ChainEntry}
-use Rattle.ih_chain.specs.Texts.{chain_journal}
-use Rattle.ih_rounds.specs.Rounds.{Round, base_in, histories, journals}
-use Rattle.ih_words.specs.Plain.{PlainCall}
-use Rattle.ih_words.specs.Replay.{ReplayCall}
-use Rattle.ih_words.specs.Solve.{SolveCall}
-use Rattle.ih_words.specs.Words.{IsNamed, chain, rounds}
-use Rattle.ih_shelf.specs.Outside.{Names, bytes_at}
-use Rattle.ih_inputs.specs.declared.reading.TheConstants.{MAX_JOURNAL}
-use Rattle.ih_endings.specs.declared.status.Status.{Status}
-use Rattle.ih_endings.specs.declared.status.Status.TheVariants.{Done, JournalRefused, NoneFound, OutOfMemory}
-use Rattle.ih_frame.specs.Ends.{HasNoFault}
+use Rattle.ih_top.specs.Below.Wards.{Extra, IsValid, JournalRefusal}
+use Rattle.ih_top.specs.Below.Arguments.{IsNamed, PlainCall, ReplayCall, SolveCall, chain, rounds}
+use Rattle.ih_top.specs.Below.Endings.{Done, HasNoFault, JournalRefused, MAX_JOURNAL, Names, NoneFound, OutOfMemory, Status, bytes_at, none_found_text}
+use Rattle.ih_top.specs.Below.Searches.{AreLegal, Base, ChainEntry, Entry, HasNone, IsBase, IsBest, Options, Round, Tried, base_in, chain_journal, histories, journal, journals, lines_from, tries}
 use Rattle.ih_top.specs.Searches.{of_chains, HasFoundNone, IsDone, IsSearch, SearchEnds, SearchForm, solution_at, of_moves}
 use Rattle.ih_top.specs.Demo.{IsShown}
 use Rattle.ih_top.specs.JournalFiles.{HasStartGiven, HasNoHeading, no_heading}
@@ -31,7 +12,6 @@ use Rattle.ih_top.specs.JournalLines.{Begins, IsRefusedAt}
 use Rattle.ih_top.specs.JournalUses.{AreNotFull, ReplayEnds, SalvageEnds}
 use Rattle.ih_top.specs.Rounds.{of_rounds}
 use Rattle.ih_top.specs.Texts.{journal_refused_text, salvaged_line, salvaged_text}
-use Rattle.ih_endings.specs.Texts.{none_found_text}
 
 -- lines that are refused are those of no full history
 abbrev pub RefusedLinesAreNotFull : Type 0

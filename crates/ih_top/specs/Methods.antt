@@ -1,22 +1,15 @@
 -- By what steps a call searches: which options that asks for, what it makes, and how the call ends. Also the calls whose
 -- work passes a gate: those and advise.
 use Rattle.std.specs.Prelude.{◌≡◌, ℕ, ◌≤◌, ◌*◌, List, Option}
-use Rattle.ih_journal.specs.declared.settings.Options.{Options}
-use Rattle.ih_journal.specs.declared.settings.TheConstants.{MAX_ENTRIES}
-use Rattle.ih_journal.specs.Base.{Base}
-use Rattle.ih_journal.specs.Settings.{most_entries, IsLawful}
-use Rattle.ih_words.specs.Solve.{SolveCall, solve_call}
-use Rattle.ih_shelf.specs.Outside.{Names}
-use Rattle.ih_inputs.specs.Reading.{Given, InputFiles}
-use Rattle.ih_frame.specs.Outcomes.{OutcomeState}
+use Rattle.ih_top.specs.Below.Arguments.{IsLawfulAdvise, SolveCall, advise_call, solve_call}
+use Rattle.ih_top.specs.Below.Endings.{Given, InputFiles, Names, OutcomeState, Status}
+use Rattle.ih_top.specs.Below.Searches.{Base, IsLawful, MAX_ENTRIES, Options, most_entries}
 use Rattle.ih_top.specs.declared.output.Output.{Output}
 use Rattle.ih_top.specs.declared.searching.Method.{Method}
 use Rattle.ih_top.specs.declared.searching.Method.TheVariants.{Moves, Chains, Rounds}
-use Rattle.ih_endings.specs.declared.status.Status.{Status}
 use Rattle.ih_top.specs.Searches.{of_chains, SearchEnds, of_moves}
 use Rattle.ih_top.specs.Outputs.{IsOutput, base_from, search_outcome}
 use Rattle.ih_top.specs.Rounds.{of_rounds}
-use Rattle.ih_words.specs.Advise.{IsLawfulAdvise, advise_call}
 use Rattle.ih_top.specs.declared.gated.Gated.{Gated}
 use Rattle.ih_top.specs.declared.gated.Gated.TheVariants.{Advise, Search}
 use Rattle.ih_top.specs.Commands.{IsAdvised, advise_inputs, solve_inputs}

@@ -1,26 +1,13 @@
 -- What a search or a journal makes to be written and said.
 use Rattle.std.specs.Prelude.{◌≡◌, ℕ, ℤ, ◌<◌, ◌^◌, List, [], ◌∷◌, Option, Some, None}
-use Rattle.ih_tables.specs.declared.drafts.Draft.{Draft}
-use Rattle.ih_plan.specs.BillOf.{bill_of}
-use Rattle.ih_plan.specs.Timetable.{Timetable}
-use Rattle.ih_solution.specs.Solution.{solution}
-use Rattle.ih_journal.specs.Base.{Base}
-use Rattle.ih_journal.specs.Tried.{Tried, tries}
-use Rattle.ih_journal.specs.Best.{IsBest, HasNone}
-use Rattle.ih_cellbook.specs.Keeping.{IsBase}
-use Rattle.ih_words.specs.Solve.{SolveCall}
-use Rattle.ih_inputs.specs.Reading.{Given}
-use Rattle.ih_frame.specs.Outcomes.{OutcomeState, WritingState, says, writes_one}
+use Rattle.ih_top.specs.Below.Wards.{Draft, JournalRefusal, Timetable, bill_of, solution}
+use Rattle.ih_top.specs.Below.Arguments.{SolveCall}
+use Rattle.ih_top.specs.Below.Endings.{Done, Given, Journal, JournalRefused, NoneFound, Out, OutcomeState, WritingState, none_found_text, says, writes_one}
+use Rattle.ih_top.specs.Below.Searches.{Base, Entry, HasNone, IsBase, IsBest, Tried, started, tries}
 use Rattle.ih_top.specs.declared.output.Output.{Output}
 use Rattle.ih_top.specs.declared.output.BestOutput.{BestOutput}
-use Rattle.ih_fill.specs.Starts.{started}
-use Rattle.ih_endings.specs.declared.status.Role.TheVariants.{Journal, Out}
-use Rattle.ih_endings.specs.declared.status.Status.TheVariants.{Done, NoneFound, JournalRefused}
-use Rattle.ih_endings.specs.Texts.{none_found_text}
 use Rattle.ih_top.specs.Texts.{done_text, found_text, journal_refused_text}
 use Rattle.ih_top.specs.Searches.{SearchForm, solution_at}
-use Rattle.ih_journal.specs.declared.entries.Entry.{Entry}
-use Rattle.ih_tables.specs.declared.journal_refusals.JournalRefusal.{JournalRefusal}
 use Rattle.ih_top.specs.declared.outcome.JournalOutcome.{JournalOutcome}
 use Rattle.ih_top.specs.declared.outcome.JournalOutcome.TheVariants.{Refused, Taken}
 

@@ -1,28 +1,10 @@
 -- How a call of rounds ends: as one of solve, with the journals of all rounds and the best of all their timetables.
 use Rattle.std.specs.Prelude.{◌≡◌, ℕ, List, ◌++◌, Option, Some, None, codes, decimal, length, slice_get}
-use Rattle.ih_tables.specs.declared.bills.Bill.{Bill}
-use Rattle.ih_tables.specs.declared.drafts.Draft.{Draft}
-use Rattle.ih_tables.specs.declared.bills.Weights.{Weights}
-use Rattle.ih_plan.specs.BillOf.{bill_of}
-use Rattle.ih_plan.specs.Timetable.{IsPlanOf, Timetable}
-use Rattle.ih_rounds.specs.declared.running.RoundsEnd.{RoundsEnd}
-use Rattle.ih_rounds.specs.declared.running.RoundsEnd.TheVariants.{Found, NoneFound}
-use Rattle.ih_solution.specs.Solution.{solution}
-use Rattle.ih_validate.specs.Report.{report}
+use Rattle.ih_top.specs.Below.Wards.{Bill, Draft, IsPlanOf, Timetable, Weights, bill_of, report, solution}
+use Rattle.ih_top.specs.Below.Arguments.{PlainCall}
+use Rattle.ih_top.specs.Below.Endings.{Names, Status}
+use Rattle.ih_top.specs.Below.Searches.{AreExact, AreRounds, Base, Entry, Found, HaveNone, IsBestOf, IsFull, NoneFound, Options, Round, RoundsEnd, base_in, base_with, journals, plan_at, tries}
 use Rattle.ih_top.specs.declared.output.BestOutput.{BestOutput}
-use Rattle.ih_journal.specs.declared.entries.Entry.{Entry}
-use Rattle.ih_journal.specs.declared.settings.Options.{Options}
-use Rattle.ih_journal.specs.Base.{Base}
-use Rattle.ih_journal.specs.Legal.{IsFull}
-use Rattle.ih_journal.specs.Tried.{tries}
-use Rattle.ih_journal.specs.History.{plan_at}
-use Rattle.ih_cellbook.specs.Keeping.{base_with}
-use Rattle.ih_cellbook.specs.Legal.{AreExact}
-use Rattle.ih_rounds.specs.Best.{HaveNone, IsBestOf}
-use Rattle.ih_rounds.specs.Rounds.{AreRounds, Round, base_in, journals}
-use Rattle.ih_words.specs.Plain.{PlainCall}
-use Rattle.ih_shelf.specs.Outside.{Names}
-use Rattle.ih_endings.specs.declared.status.Status.{Status}
 use Rattle.ih_top.specs.Searches.{SearchEnds, SearchForm, solution_at}
 
 -- the place of the best among the entries of its round

@@ -1,31 +1,13 @@
 -- How a call ends that searches: what it then has read and written, and what it had to say, by its status. What
 -- the shelf doesn't tell isn't claimed.
 use Rattle.std.specs.Prelude.{◌≡◌, ◌≢◌, ℕ, List, Some, ◌<◌, ◌^◌, ◌⊎◌, map, Option, None}
-use Rattle.ih_words.specs.Solve.{SolveCall}
-use Rattle.ih_shelf.specs.Outside.{Names, PartOr, IfTold}
-use Rattle.ih_journal.specs.declared.settings.Options.{Options}
-use Rattle.ih_journal.specs.Base.{Base}
-use Rattle.ih_journal.specs.Tried.{Tried, tried}
-use Rattle.ih_journal.specs.History.{plan_at}
-use Rattle.ih_journal.specs.Legal.{IsFull}
-use Rattle.ih_journal.specs.Best.{IsBest, HasNone}
-use Rattle.ih_chain.specs.declared.entries.ChainEntry.{ChainEntry}
-use Rattle.ih_chain.specs.Entries.{chain_tried}
-use Rattle.ih_chain.specs.Texts.{chain_journal}
-use Rattle.ih_words.specs.Plain.{PlainCall}
-use Rattle.ih_cellbook.specs.Keeping.{IsBase}
-use Rattle.ih_solution.specs.Solution.{solution}
-use Rattle.ih_endings.specs.declared.status.Status.{Status}
-use Rattle.ih_endings.specs.declared.status.Status.TheVariants.{Done, NoneFound, WriteFault, OutOfMemory}
-use Rattle.ih_endings.specs.declared.status.Role.TheVariants.{Journal, Out}
+use Rattle.ih_top.specs.Below.Wards.{solution}
+use Rattle.ih_top.specs.Below.Arguments.{PlainCall, SolveCall}
+use Rattle.ih_top.specs.Below.Endings.{Done, EndsUnread, IfTold, Journal, Names, NoneFound, Out, OutOfMemory, PartOr, Status, Unchanged, WriteFault, memory_text, none_found_text, unwritten_text}
+use Rattle.ih_top.specs.Below.Searches.{Base, ChainEntry, Entry, HasNone, IsBase, IsBest, IsFull, Options, Tried, chain_journal, chain_tried, journal, plan_at, tried}
 use Rattle.ih_top.specs.Histories.{IsSound, HasStart}
 use Rattle.ih_top.specs.Commands.{solve_inputs}
-use Rattle.ih_endings.specs.Inputs.{EndsUnread}
-use Rattle.ih_endings.specs.Texts.{memory_text, unwritten_text, none_found_text}
 use Rattle.ih_top.specs.Texts.{done_text}
-use Rattle.ih_endings.specs.Ends.{Unchanged}
-use Rattle.ih_journal.specs.declared.entries.Entry.{Entry}
-use Rattle.ih_journal.specs.Texts.{journal}
 
 -- each name has what it had, but for those that the call writes
 abbrev pub OthersUnchanged : SolveCall → Names → Names → Type 0

@@ -2,20 +2,10 @@
 -- can't be had or written, of memory, and of a search that found none are in `ih_endings`.
 use Rattle.std.specs.Prelude.{ℕ, Bool, true, false, List, ◌++◌, codes, decimal, length}
 use Rattle.std.specs.List.{count_by}
-use Rattle.ih_tables.specs.declared.bills.Bill.{Bill}
-use Rattle.ih_tables.specs.declared.bills.Weights.{Weights}
-use Rattle.ih_plan.specs.BillOf.{bill_of}
-use Rattle.ih_validate.specs.Report.{report}
-use Rattle.ih_journal.specs.declared.entries.Entry.{Entry}
+use Rattle.ih_top.specs.Below.Wards.{Bill, Early, Extra, Grammar, Heading, JournalRefusal, Move, Number, Place, Price, Reason, Seen, Try, Verdict, Weights, Worker, bill_of, report}
+use Rattle.ih_top.specs.Below.Searches.{Base, Entry, Tried, is_accepted, is_stale, plan_at, tries}
 use Rattle.ih_journal.specs.declared.entries.Verdict.{Verdict as AnyVerdict}
 use Rattle.ih_journal.specs.declared.entries.Verdict.TheVariants.{Declined}
-use Rattle.ih_tables.specs.declared.journal_refusals.JournalRefusal.{JournalRefusal}
-use Rattle.ih_tables.specs.declared.journal_refusals.Reason.{Reason}
-use Rattle.ih_tables.specs.declared.journal_refusals.Reason.TheVariants.{Heading, Extra, Grammar, Place, Worker, Number, Try, Seen, Move, Price, Verdict, Early}
-use Rattle.ih_journal.specs.Attempts.{is_stale}
-use Rattle.ih_journal.specs.Base.{Base}
-use Rattle.ih_journal.specs.Tried.{Tried, tries}
-use Rattle.ih_journal.specs.History.{is_accepted, plan_at}
 
 -- how the program is called
 unfoldable pub usage_text : List ℕ

@@ -1,9 +1,8 @@
 //! What the command `advise` comes to.
 
 ghost use Rattle.std.specs.Prelude.{IfOk};
-ghost use Rattle.ih_inputs.specs.Reading.{ArePlans, given_of};
-ghost use Rattle.ih_frame.specs.Outcomes.{IsOwnStatus, outcome_of};
-ghost use Rattle.ih_words.specs.Advise.{IsLawfulAdvise, advise_call};
+ghost use Rattle.ih_top.specs.Below.Arguments.{IsLawfulAdvise, advise_call};
+ghost use Rattle.ih_top.specs.Below.Endings.{ArePlans, IsOwnStatus, given_of, outcome_of};
 ghost use Rattle.ih_top.specs.Commands.{IsAdvised};
 
 use ih_advise::advice_text;

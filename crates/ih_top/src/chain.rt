@@ -1,8 +1,8 @@
 //! What a search by chains of moves makes to be written and said.
 
 ghost use Rattle.std.specs.Prelude.{◌≡◌, ◌<◌, ◌^◌, IfOk, IfSome, length};
-ghost use Rattle.ih_plan.specs.Timetable.{IsPlanOf};
-ghost use Rattle.ih_chain.specs.Texts.{chain_journal};
+ghost use Rattle.ih_top.specs.Below.Wards.{IsPlanOf};
+ghost use Rattle.ih_top.specs.Below.Searches.{chain_journal};
 ghost use Rattle.ih_top.specs.Outputs.{IsBestOfRun};
 
 use crate::output::{BestOutput, Output, found_text};

@@ -1,17 +1,18 @@
 //! The command `check`: what it comes to.
 
 ghost use Rattle.std.specs.Prelude.{◌≡◌};
-ghost use Rattle.ih_words.specs.Check.{check_call};
-ghost use Rattle.ih_frame.specs.Outcomes.{IsOwnStatus};
+ghost use Rattle.ih_top.specs.Below.Arguments.{check_call};
+ghost use Rattle.ih_top.specs.Below.Endings.{IsOwnStatus};
 ghost use Rattle.ih_top.specs.{Commands.IsChecked, Commands.checked_status, Commands.check_inputs};
 
 use crate::inputs::two_names;
+use crate::outcome::Made;
 use ih_endings::Status;
 use ih_frame::{Command, Outcome};
 use ih_inputs::{InputNames, Inputs};
 use ih_validate::{bill, report};
 use ih_words::Check;
-use std::alloc::{AllocError, Global};
+use std::alloc::Global;
 use std::sync::Wait;
 use std::thread::Threads;
 
@@ -44,12 +45,7 @@ impl<'c, 'w> Command for Checking<'c, 'w> {
         two_names(self.call.instance, Some(self.call.solution))
     }
 
-    fn outcome<'a, R: Threads + Wait + Sync>(
-        &'a self,
-        _rt: &R,
-        alloc: Global,
-        inputs: Inputs,
-    ) -> Result<Outcome<'a>, AllocError> {
+    fn outcome<R: Threads + Wait + Sync>(&self, _: &R, alloc: Global, inputs: Inputs) -> Made<'_> {
         let costs = bill(&*inputs.inst, &inputs.plan);
         let text = report(alloc, &*inputs.inst, &costs)?;
         let status = checked_status(costs.feasible());

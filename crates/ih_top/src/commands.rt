@@ -1,10 +1,9 @@
 //! The commands, each by the module that says what it comes to.
 
 ghost use Rattle.std.specs.Prelude.{Some};
-ghost use Rattle.ih_shelf.specs.Outside.{IfTold, IsOnePutAtMost};
-ghost use Rattle.ih_endings.specs.{Answers.HasShelfCause, Ends.Ends, Ends.HasCause, Ends.Received};
-ghost use Rattle.ih_endings.specs.Texts.{ReceivedPart};
-ghost use Rattle.ih_words.specs.Words.{HasLawfulOptions, command_call, OutDiffers};
+ghost use Rattle.ih_top.specs.Below.Arguments.{HasLawfulOptions, OutDiffers, command_call};
+ghost use Rattle.ih_top.specs.Below.Endings.{Ends, HasCause, HasShelfCause, IfTold, IsOnePutAtMost, Received};
+ghost use Rattle.ih_top.specs.Below.Endings.{ReceivedPart};
 ghost use Rattle.ih_top.specs.{Ends.CallEnds, Ends.IsUntouched};
 
 use crate::check::Checking;

@@ -1,10 +1,10 @@
 //! The command `demo`: a search on a generated instance, without files.
 
 ghost use Rattle.std.specs.Prelude.{◌≡◌, ◌++◌, ℕ, IfOk, Ok, option_map, string_bytes};
-ghost use Rattle.ih_journal.specs.{Attempts.is_stale, History.is_accepted};
+ghost use Rattle.ih_top.specs.Below.Wards.{instance};
+ghost use Rattle.ih_top.specs.Below.Endings.{Answers, HasFileCause};
+ghost use Rattle.ih_top.specs.Below.Searches.{is_accepted, is_stale};
 ghost use Rattle.ih_gen.specs.Generated.{generated};
-ghost use Rattle.ih_instance.specs.Instance.{instance};
-ghost use Rattle.ih_endings.specs.Answers.{Answers, HasFileCause};
 ghost use Rattle.ih_top.specs.Demo.{DemoEnds, IsShown, demo_options};
 ghost use Rattle.ih_top.specs.Texts.{counts_line, demo_line, is_declined, verdicts_of};
 

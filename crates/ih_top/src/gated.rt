@@ -2,11 +2,9 @@
 //! they stand beside the commands that are values.
 
 ghost use Rattle.std.specs.Prelude.{◌≡◌, IfOk};
-ghost use Rattle.ih_shelf.specs.Outside.{IfTold, IsOnePutAtMost};
-ghost use Rattle.ih_inputs.specs.Reading.{ArePlans, files_of, given_of};
-ghost use Rattle.ih_endings.specs.Answers.{Answers, HasShelfCause};
-ghost use Rattle.ih_endings.specs.{Ends.Ends, Ends.HasCause, Ends.Received, Texts.ReceivedPart};
-ghost use Rattle.ih_frame.specs.{Ends.CommandEnds, Outcomes.IsOwnStatus, Outcomes.outcome_of};
+ghost use Rattle.ih_top.specs.Below.Endings.{Answers, ArePlans, CommandEnds, Ends, HasCause, HasShelfCause, IfTold};
+ghost use Rattle.ih_top.specs.Below.Endings.{IsOnePutAtMost, IsOwnStatus, Received, ReceivedPart, files_of, given_of};
+ghost use Rattle.ih_top.specs.Below.Endings.{outcome_of};
 ghost use Rattle.ih_top.specs.Methods.{IsLawfulGated, comes_to, gated_inputs};
 
 use crate::advise::advised;

@@ -1,8 +1,8 @@
 //! The command `gen`.
 
 ghost use Rattle.std.specs.Prelude.{◌≡◌, IfOk};
-ghost use Rattle.ih_words.specs.Generate.{gen_call};
-ghost use Rattle.ih_frame.specs.Outcomes.{IsOwnStatus, outcome_of};
+ghost use Rattle.ih_top.specs.Below.Arguments.{gen_call};
+ghost use Rattle.ih_top.specs.Below.Endings.{IsOwnStatus, outcome_of};
 ghost use Rattle.ih_top.specs.Commands.{generated_outcome};
 
 use ih_endings::Role;

@@ -1,7 +1,7 @@
 //! The files of a call that names an instance, and a timetable for it or none.
 
 ghost use Rattle.std.specs.Prelude.{◌≡◌, option_map};
-ghost use Rattle.ih_inputs.specs.Reading.{files_of, two_files};
+ghost use Rattle.ih_top.specs.Below.Endings.{files_of, two_files};
 
 use ih_inputs::InputNames;
 

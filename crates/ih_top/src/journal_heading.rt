@@ -1,7 +1,7 @@
 //! What a journal begins with: the heading, whose options say what search it is of.
 
 ghost use Rattle.std.specs.Prelude.{◌≡◌, ◌<◌, ◌^◌, ◌++◌, IfNone, IfSome};
-ghost use Rattle.ih_journal.specs.{Settings.IsLawful, Texts.ended, Texts.heading};
+ghost use Rattle.ih_top.specs.Below.Searches.{IsLawful, ended, heading};
 ghost use Rattle.ih_top.specs.JournalFiles.{HasNoHeading};
 
 use crate::journal_lines::first_line;

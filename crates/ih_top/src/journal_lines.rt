@@ -1,7 +1,7 @@
 //! The lines of a journal, which are taken one by one.
 
 ghost use Rattle.std.specs.Prelude.{◌≡◌, ◌+◌, ◌==◌, List, [], ℕ, IfErr, IfNone, IfSome, OnOk, length, position};
-ghost use Rattle.ih_journal.specs.{Legal.IsFull, Tried.tries, Texts.lines_from};
+ghost use Rattle.ih_top.specs.Below.Searches.{IsFull, lines_from, tries};
 ghost use Rattle.ih_top.specs.JournalLines.{Begins, HasLine, HasNoLineFeed, IsRefusedAt, IsRestRefused};
 
 use ih_journal::{JournalRefusal, Reason};

@@ -1,21 +1,19 @@
 //! The commands `replay` and `salvage`: what they come to by a journal.
 
 ghost use Rattle.std.specs.Prelude.{◌≡◌, [], IfOk, option_map, unwrap_or};
-ghost use Rattle.ih_plan.specs.Timetable.{IsPlanOf};
-ghost use Rattle.ih_cellbook.specs.Keeping.{IsBase};
-ghost use Rattle.ih_desk.specs.Searching.{base_given};
-ghost use Rattle.ih_arguments.specs.{Start.start_call};
-ghost use Rattle.ih_words.specs.{Replay.replay_call};
+ghost use Rattle.ih_top.specs.Below.Wards.{IsPlanOf};
+ghost use Rattle.ih_top.specs.Below.Arguments.{replay_call, start_call};
+ghost use Rattle.ih_top.specs.Below.Searches.{IsBase, base_given};
 ghost use Rattle.ih_top.specs.{Commands.replay_inputs, JournalFiles.read_from};
 ghost use Rattle.ih_top.specs.JournalUses.{IsJournalUse, IsLinesFor, IsOutcomeFor};
 
 use crate::inputs::two_names;
 use crate::journal_heading::heading_of;
-use crate::outcome::{JournalOutcome, headless, journal_outcome};
+use crate::outcome::{JournalOutcome, Made, headless, journal_outcome};
 use crate::replay::replay_lines;
 use crate::salvage::salvage_lines;
 use ih_desk::Given;
-use ih_frame::{Command, Outcome};
+use ih_frame::Command;
 use ih_inputs::{InputNames, Inputs};
 use ih_parfill::search_start;
 use ih_words::{Replay, Start};
@@ -108,12 +106,7 @@ impl<'c, 'w> Command for Taking<'c, 'w> {
         }
     }
 
-    fn outcome<'a, R: Threads + Wait + Sync>(
-        &'a self,
-        rt: &R,
-        alloc: Global,
-        inputs: Inputs,
-    ) -> Result<Outcome<'a>, AllocError> {
+    fn outcome<R: Threads + Wait + Sync>(&self, rt: &R, alloc: Global, inputs: Inputs) -> Made<'_> {
         let Inputs {
             inst,
             plan,

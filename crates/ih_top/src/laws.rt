@@ -1,6 +1,8 @@
 //! Laws of journals and of whole calls, each on a function that does nothing. A law that follows from others calls
 //! theirs.
 
+ghost use Rattle.ih_top.specs.Below.Endings.{MAX_FILE, MAX_JOURNAL};
+ghost use Rattle.ih_top.specs.Below.Searches.{MAX_ENTRIES, MAX_MOVES, MAX_RETRIES};
 ghost use Rattle.ih_top.specs.Laws.{ChainJournalsAreHeadless, ChainJournalsFit, ChainsAreRefused, ChainsAreToldApart};
 ghost use Rattle.ih_top.specs.Laws.{DemosShowTheSame, RoundJournalsFit, RoundsAreSalvaged, RoundsAreToldApart};
 ghost use Rattle.ih_top.specs.Laws.{SolvesAreToldApart};
@@ -8,13 +10,10 @@ ghost use Rattle.ih_top.specs.Laws.{JournalsFit, SolvesReplayTheSame, SolvesWith
 ghost use Rattle.ih_top.specs.Laws.{LoneSearchesAreAlike, LoneSearchesDoTheSame};
 ghost use Rattle.ih_top.specs.Laws.{LoneSearchesEndAlike, RefusedLinesAreNotFull, RoundsAreRefused};
 ghost use Rattle.ih_top.specs.Laws.{WholeLinesAreSalvaged};
-ghost use Rattle.ih_inputs.specs.declared.reading.TheConstants.{MAX_FILE, MAX_JOURNAL};
 ghost use Rattle.ih_top.specs.{Searches.of_chains, Rounds.of_rounds, Searches.of_moves};
 ghost use Rattle.std.specs.Prelude.{ℕ, ◌≡◌};
 ghost use Rattle.ih_plan.specs.declared.limits.TheConstants.{MAX_HARD, MAX_HEAT};
-ghost use Rattle.ih_journal.specs.declared.settings.TheConstants.{MAX_ENTRIES, MAX_MOVES};
 ghost use Rattle.ih_plan.specs.declared.limits.TheConstants.{MAX_WORKERS};
-ghost use Rattle.ih_journal.specs.declared.settings.TheConstants.{MAX_RETRIES};
 ghost use Rattle.ih_words.specs.declared.plain.TheConstants.{MAX_LENGTH, MAX_ROUNDS};
 ghost use Rattle.ih_plan.specs.{declared.limits.TheConstants.MAX_FREEZE};
 

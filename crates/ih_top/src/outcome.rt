@@ -1,7 +1,7 @@
 //! What a journal comes to, and how that is written and said.
 
 ghost use Rattle.std.specs.Prelude.{◌≡◌, IfOk};
-ghost use Rattle.ih_frame.specs.Outcomes.{IsOwnStatus, outcome_of};
+ghost use Rattle.ih_top.specs.Below.Endings.{IsOwnStatus, outcome_of};
 ghost use Rattle.ih_top.specs.Outputs.{journal_outcome};
 
 use crate::output::BestOutput;
@@ -10,6 +10,9 @@ use ih_endings::{Role, Status};
 use ih_frame::Outcome;
 use ih_journal::{JournalRefusal, Reason};
 use std::alloc::{AllocError, Global};
+
+/// What a command comes to, unless memory ran out.
+pub type Made<'a> = Result<Outcome<'a>, AllocError>;
 
 /// What a journal comes to.
 #[derive(Drop)]

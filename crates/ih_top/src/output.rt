@@ -1,11 +1,8 @@
 //! What a search makes to be written and said.
 
 ghost use Rattle.std.specs.Prelude.{◌≡◌, ◌<◌, ◌^◌, ◌++◌, IfOk, length, string_bytes};
-ghost use Rattle.ih_plan.specs.{Timetable.IsPlanOf, BillOf.bill_of};
-ghost use Rattle.ih_journal.specs.{Legal.AreLegal, Best.BestIs, Best.IsBest, Tried.tries};
-ghost use Rattle.ih_validate.specs.Report.{report};
-ghost use Rattle.ih_cellbook.specs.Keeping.{IsBase};
-ghost use Rattle.ih_desk.specs.Searching.{base_given};
+ghost use Rattle.ih_top.specs.Below.Wards.{IsPlanOf, bill_of, report};
+ghost use Rattle.ih_top.specs.Below.Searches.{AreLegal, BestIs, IsBase, IsBest, base_given, tries};
 ghost use Rattle.ih_top.specs.{Texts.best_line, Texts.found_text, Outputs.HasBestOutput, Outputs.IsBestOutput};
 
 use ih_cellbook::plan_at;

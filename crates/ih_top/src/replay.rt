@@ -1,8 +1,7 @@
 //! What the lines of a journal come to that has to be that of a full history.
 
 ghost use Rattle.std.specs.Prelude.{IfOk};
-ghost use Rattle.ih_cellbook.specs.Keeping.{IsBase};
-ghost use Rattle.ih_desk.specs.Searching.{base_given};
+ghost use Rattle.ih_top.specs.Below.Searches.{IsBase, base_given};
 ghost use Rattle.ih_top.specs.JournalUses.{IsLinesFor};
 ghost use Rattle.ih_top.specs.declared.journals.JournalUse.TheVariants.{Replay as ForReplay};
 

@@ -1,10 +1,8 @@
 //! What searches in rounds make to be written and said.
 
 ghost use Rattle.std.specs.Prelude.{◌≡◌, IfOk, string_bytes};
-ghost use Rattle.ih_plan.specs.{BillOf.bill_of, Timetable.IsPlanOf};
-ghost use Rattle.ih_journal.specs.Settings.{IsLawful};
-ghost use Rattle.ih_cellbook.specs.Keeping.{IsBase};
-ghost use Rattle.ih_desk.specs.Searching.{base_given};
+ghost use Rattle.ih_top.specs.Below.Wards.{IsPlanOf, bill_of};
+ghost use Rattle.ih_top.specs.Below.Searches.{IsBase, IsLawful, base_given};
 ghost use Rattle.ih_top.specs.Rounds.{IsRoundSaid, FitsEnd, round_line, round_report};
 ghost use Rattle.ih_top.specs.{Outputs.IsOutput, Rounds.IsFullFrom, Rounds.of_rounds};
 

@@ -1,12 +1,10 @@
 //! The one call that does all that the program does.
 
 ghost use Rattle.std.specs.Prelude.{map, string_bytes};
-ghost use Rattle.ih_words.specs.Words.{call_of};
-ghost use Rattle.ih_endings.specs.Texts.{ReceivedPart};
-ghost use Rattle.ih_endings.specs.Answers.{HasShelfCause};
+ghost use Rattle.ih_top.specs.Below.Arguments.{call_of};
+ghost use Rattle.ih_top.specs.Below.Endings.{HasCause, HasShelfCause, IfTold, IsOnePutAtMost, Received, ReceivedPart};
+ghost use Rattle.ih_top.specs.Below.Endings.{Rose};
 ghost use Rattle.ih_top.specs.Ends.{IsComplete, IsUntouched, Leaves};
-ghost use Rattle.ih_endings.specs.Ends.{Received, HasCause};
-ghost use Rattle.ih_shelf.specs.Outside.{IfTold, IsOnePutAtMost, Rose};
 
 use crate::commands::perform;
 use crate::texts::usage;

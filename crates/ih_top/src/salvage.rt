@@ -1,8 +1,7 @@
 //! What the lines of a journal come to that may be cut off or damaged.
 
 ghost use Rattle.std.specs.Prelude.{◌≡◌, ◌++◌, IfOk, string_bytes};
-ghost use Rattle.ih_cellbook.specs.Keeping.{IsBase};
-ghost use Rattle.ih_desk.specs.Searching.{base_given};
+ghost use Rattle.ih_top.specs.Below.Searches.{IsBase, base_given};
 ghost use Rattle.ih_top.specs.{JournalUses.IsLinesFor, Texts.salvaged_line};
 ghost use Rattle.ih_top.specs.declared.journals.JournalUse.TheVariants.{Salvage};
 ghost use Rattle.ih_top.specs.declared.outcome.JournalOutcome.TheVariants.{Taken};

@@ -1,13 +1,10 @@
 //! The commands that search: what they come to. Of rounds that are all their journals, and the best of all.
 
 ghost use Rattle.std.specs.Prelude.{IfOk};
-ghost use Rattle.ih_plan.specs.Timetable.{IsPlanOf};
-ghost use Rattle.ih_journal.specs.Settings.{IsLawful};
-ghost use Rattle.ih_cellbook.specs.Keeping.{IsBase};
-ghost use Rattle.ih_desk.specs.Searching.{base_given};
-ghost use Rattle.ih_words.specs.Solve.{solve_call};
-ghost use Rattle.ih_inputs.specs.Reading.{ArePlans, given_of};
-ghost use Rattle.ih_frame.specs.Outcomes.{IsOwnStatus, outcome_of};
+ghost use Rattle.ih_top.specs.Below.Wards.{IsPlanOf};
+ghost use Rattle.ih_top.specs.Below.Arguments.{solve_call};
+ghost use Rattle.ih_top.specs.Below.Endings.{ArePlans, IsOwnStatus, given_of, outcome_of};
+ghost use Rattle.ih_top.specs.Below.Searches.{IsBase, IsLawful, base_given};
 ghost use Rattle.ih_top.specs.{Outputs.base_from};
 ghost use Rattle.ih_top.specs.Methods.{IsLawfulFor, IsMade, IsSearched};
 

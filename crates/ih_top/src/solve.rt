@@ -1,8 +1,7 @@
 //! What a search of single moves makes to be written and said.
 
 ghost use Rattle.std.specs.Prelude.{IfOk};
-ghost use Rattle.ih_cellbook.specs.Keeping.{IsBase};
-ghost use Rattle.ih_desk.specs.Searching.{base_given};
+ghost use Rattle.ih_top.specs.Below.Searches.{IsBase, base_given};
 ghost use Rattle.ih_top.specs.{Outputs.IsOutput, Searches.of_moves};
 
 use crate::output::{Output, best_of, seed_of};

@@ -1,8 +1,8 @@
 //! The texts of one line, and the answer that the words name no call.
 
 ghost use Rattle.std.specs.Prelude.{◌≡◌, IfOk};
+ghost use Rattle.ih_top.specs.Below.Endings.{IsSaid, none_found_text};
 ghost use Rattle.ih_top.specs.Texts.{journal_refused_text, reason_text, usage_text};
-ghost use Rattle.ih_endings.specs.{Answers.IsSaid, Texts.none_found_text};
 
 use ih_endings::{Answer, Status, said};
 use ih_journal::{JournalRefusal, Reason};

@@ -1,8 +1,8 @@
 //! What a search made, to be written and said.
 
 ghost use Rattle.std.specs.Prelude.{◌≡◌, IfOk};
-ghost use Rattle.ih_words.specs.Solve.{solve_call};
-ghost use Rattle.ih_frame.specs.Outcomes.{IsOwnStatus, outcome_of};
+ghost use Rattle.ih_top.specs.Below.Arguments.{solve_call};
+ghost use Rattle.ih_top.specs.Below.Endings.{IsOwnStatus, outcome_of};
 ghost use Rattle.ih_top.specs.Outputs.{search_outcome};
 
 use crate::output::Output;

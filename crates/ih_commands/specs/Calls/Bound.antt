@@ -1,21 +1,9 @@
 -- The command `bound`: its description for `clap`, its values and what it comes to.
 use Rattle.std.specs.Prelude.{◌≡◌, ℕ, ◌≤◌, Bool, true, false, List, [], ◌++◌, Option, Some, codes, option_map, unwrap_or}
-use Rattle.clap.specs.Words.{App, Row, Text, first_of, new_app, with_rule}
-use Rattle.ih_plan.specs.declared.limits.TheConstants.{MAX_WORKERS}
-use Rattle.ih_arguments.specs.Arguments.{flag, named, optional_between, optional_name}
-use Rattle.ih_arguments.specs.Matches.{IsNumberIfGiven, flag_at, number_if_given, text_at}
-use Rattle.ih_tables.specs.declared.drafts.Draft.{Draft}
-use Rattle.ih_plan.specs.Timetable.{Timetable}
-use Rattle.ih_inputs.specs.Reading.{Given, InputFiles, said_files}
-use Rattle.ih_endings.specs.declared.status.Status.{Status}
-use Rattle.ih_endings.specs.declared.status.Status.TheVariants.{Done, Infeasible as NotFeasible}
-use Rattle.ih_frame.specs.Outcomes.{OutcomeState, says}
-use Rattle.ih_bound.specs.Bounds.{AddUp, HoldsOfAll, IsFoundIn}
-use Rattle.ih_bound.specs.Hints.{IsHinted}
-use Rattle.ih_bound.specs.Judging.{HasGap, judged, no_infeasibility}
-use Rattle.ih_bound.specs.Texts.{bound_text}
-use Rattle.ih_bound.specs.declared.judging.Judged.{Judged}
-use Rattle.ih_bound.specs.declared.outcomes.Outcome.{Outcome}
+use Rattle.ih_commands.specs.Below.Wards.{Draft, MAX_WORKERS, Timetable}
+use Rattle.ih_commands.specs.Below.Arguments.{App, IsNumberIfGiven, Row, Text, first_of, flag, flag_at, named, new_app, number_if_given, optional_between, optional_name, text_at, with_rule}
+use Rattle.ih_commands.specs.Below.Endings.{Done, Given, Infeasible as NotFeasible, InputFiles, OutcomeState, Status, said_files, says}
+use Rattle.ih_commands.specs.Below.Searches.{AddUp, HasGap, HoldsOfAll, IsFoundIn, IsHinted, Judged, Outcome, bound_text, judged, no_infeasibility}
 use Rattle.ih_commands.specs.declared.command.bound.Bound.{Bound}
 use Rattle.ih_commands.specs.declared.command.bound.TheConstants.{DEFAULT_BOUND_ROUNDS, MAX_BOUND_ROUNDS}
 use Rattle.ih_commands.specs.declared.command.common.TheConstants.{DEFAULT_WORKERS}

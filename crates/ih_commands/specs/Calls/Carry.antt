@@ -1,18 +1,10 @@
 -- The command `carry`: its description for `clap`, its values and what it comes to.
 use Rattle.std.specs.Prelude.{◌≡◌, ℕ, List, [], ◌∷◌, Option, Some, None, codes, if◌then◌else◌, unwrap_or}
-use Rattle.clap.specs.Words.{App, Row, Text, new_app, with_rule}
-use Rattle.ih_tables.specs.declared.drafts.Draft.{Draft}
-use Rattle.ih_plan.specs.declared.limits.TheConstants.{MAX_FREEZE}
-use Rattle.ih_plan.specs.Timetable.{Timetable}
-use Rattle.ih_solution.specs.Solution.{solution}
+use Rattle.ih_commands.specs.Below.Wards.{Draft, MAX_FREEZE, Timetable, solution}
+use Rattle.ih_commands.specs.Below.Arguments.{App, Row, Text, all_differ, named, new_app, number_at, optional_between, text_at, with_rule}
+use Rattle.ih_commands.specs.Below.Endings.{Given, InputFiles, Out, OutcomeState, said_files, writes_one}
 use Rattle.ih_carry.specs.Account.{account}
 use Rattle.ih_carry.specs.Handovers.{HandoverData, IsCarried}
-use Rattle.ih_arguments.specs.Arguments.{named, optional_between}
-use Rattle.ih_arguments.specs.Distinct.{all_differ}
-use Rattle.ih_arguments.specs.Matches.{number_at, text_at}
-use Rattle.ih_inputs.specs.Reading.{Given, InputFiles, said_files}
-use Rattle.ih_endings.specs.declared.status.Role.TheVariants.{Out}
-use Rattle.ih_frame.specs.Outcomes.{OutcomeState, writes_one}
 use Rattle.ih_commands.specs.declared.command.carry.Carry.{Carry}
 
 -- carry OLD_WARD OLD_PLAN NEW_WARD NEW_PLAN [--days K]

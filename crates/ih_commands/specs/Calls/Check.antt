@@ -1,13 +1,8 @@
 -- The command `check`: its description for `clap`, its values and what it comes to.
 use Rattle.std.specs.Prelude.{◌≡◌, List, Option, Some, codes}
-use Rattle.clap.specs.Words.{App, Row, Text}
-use Rattle.ih_tables.specs.Bills.{feasible}
-use Rattle.ih_plan.specs.BillOf.{bill_of}
-use Rattle.ih_validate.specs.Report.{report}
-use Rattle.ih_arguments.specs.Arguments.{files_app}
-use Rattle.ih_arguments.specs.Matches.{text_at}
-use Rattle.ih_inputs.specs.Reading.{Given, InputFiles, said_files}
-use Rattle.ih_frame.specs.Outcomes.{OutcomeState, says}
+use Rattle.ih_commands.specs.Below.Wards.{bill_of, feasible, report}
+use Rattle.ih_commands.specs.Below.Arguments.{App, Row, Text, files_app, text_at}
+use Rattle.ih_commands.specs.Below.Endings.{Given, InputFiles, OutcomeState, said_files, says}
 use Rattle.ih_commands.specs.Calls.Bound.{judged_status}
 use Rattle.ih_commands.specs.declared.command.check.Check.{Check}
 
@@ -28,13 +23,9 @@ check_call c = record { instance = c.instance.now; solution = c.solution.now }
 abbrev pub check_inputs : CheckCall → InputFiles
 check_inputs c = said_files c.instance (Some c.solution)
 
--- the call of check, by `clap`'s matches
-abbrev pub check_in : List Row → CheckCall
-check_in rows = record { instance = text_at (codes "INSTANCE") rows; solution = text_at (codes "SOLUTION") rows }
-
--- each call that `clap` finds no fault in is lawful: it writes no file
+-- the call of check, by `clap`'s matches: each that `clap` finds no fault in is lawful, as it writes no file
 abbrev pub lawful_check : List Row → Option CheckCall
-lawful_check rows = Some (check_in rows)
+lawful_check rows = Some (record { instance = text_at (codes "INSTANCE") rows; solution = text_at (codes "SOLUTION") rows })
 
 -- ---- what it comes to
 

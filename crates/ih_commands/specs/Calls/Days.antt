@@ -2,9 +2,7 @@
 use Rattle.std.specs.Prelude.{◌==◌, Bool, true, List, length, Option, None, codes, if◌then◌else◌, is_some}
 use Rattle.std.specs.Option.{option_map_or}
 use Rattle.std.specs.Result.{result_ok}
-use Rattle.clap.specs.Words.{Row, Text, first_of}
-use Rattle.jiff.specs.Words.{parse_date}
-use Rattle.jiff_fmt.specs.Temporal.{DateParts}
+use Rattle.ih_commands.specs.Below.Arguments.{DateParts, Row, Text, first_of, parse_date}
 
 -- the day that a word names, if it names one: of the ways to write a date that the calendar's reader takes, only
 -- 2026-01-05 has ten bytes

@@ -1,16 +1,11 @@
 -- The command `improve`: its description for `clap`, its values and when they are lawful.
 use Rattle.std.specs.Prelude.{ℕ, ◌*◌, ◌≤◌, ◌&&◌, ◌||◌, not, nat_le, Bool, List, ◌∷◌, ◌++◌, Option, Some, None, codes, if◌then◌else◌, map, option_map, option_to_list, unwrap_or}
-use Rattle.clap.specs.Words.{App, Row, Text, first_of, new_app, with_rule}
-use Rattle.ih_plan.specs.declared.limits.TheConstants.{MAX_FREEZE, MAX_HARD, MAX_HEAT, MAX_WORKERS}
-use Rattle.ih_arguments.specs.Arguments.{flag, named, optional, optional_any, optional_between, optional_number, repeated}
-use Rattle.ih_arguments.specs.Distinct.{all_differ}
-use Rattle.ih_arguments.specs.Matches.{IsNumberIfGiven, flag_at, is_given, number_if_given, text_at, texts_at}
-use Rattle.ih_arguments.specs.Start.{StartCall, freezes_a_file, start_call, start_files, start_in, takes_a_file, with_start}
-use Rattle.ih_inputs.specs.Reading.{InputFiles, said_files}
-use Rattle.ih_improve.specs.Given.{widest}
+use Rattle.ih_commands.specs.Below.Wards.{MAX_FREEZE, MAX_HARD, MAX_HEAT, MAX_WORKERS}
+use Rattle.ih_commands.specs.Below.Arguments.{App, IsNumberIfGiven, Row, StartCall, Text, all_differ, first_of, flag, flag_at, freezes_a_file, is_given, named, new_app, number_if_given, optional, optional_any, optional_between, optional_number, repeated, start_call, start_files, start_in, takes_a_file, text_at, texts_at, with_rule, with_start}
+use Rattle.ih_commands.specs.Below.Endings.{InputFiles, said_files}
+use Rattle.ih_commands.specs.Below.Searches.{MAX_KEEP, widest}
 use Rattle.ih_improve.specs.Settings.{IsLawful}
 use Rattle.ih_improve.specs.declared.given.Given.{Given}
-use Rattle.ih_improve.specs.declared.settings.TheConstants.{MAX_KEEP}
 use Rattle.ih_commands.specs.Pacing.{IsLawfulPace, attempts_of}
 use Rattle.ih_commands.specs.declared.command.improve_words.Improve.{Improve}
 use Rattle.ih_commands.specs.declared.command.improve_words.TheConstants.{DEFAULT_ROUNDS, DEFAULT_SECONDS, DEFAULT_SEED, DEFAULT_TIMED_ROUNDS}

@@ -2,19 +2,11 @@
 use Rattle.std.specs.Prelude.{◌≡◌, ◌&&◌, ◌||◌, ℕ, Bool, true, false, not, List, [], ◌∷◌, Option, Some, None, codes, if◌then◌else◌, is_some, option_and_then, option_map, unwrap_or}
 use Rattle.std.specs.Option.{option_map_or}
 use Rattle.std.specs.Str.{bytes_eq}
-use Rattle.clap.specs.Words.{App, Row, Text, first_of, with_rule}
-use Rattle.jiff.specs.Types.{Date}
-use Rattle.jiff.specs.Words.{date_parts}
-use Rattle.jiff_fmt.specs.Temporal.{DateParts}
-use Rattle.ih_arguments.specs.Arguments.{files_app, named, optional}
-use Rattle.ih_arguments.specs.Distinct.{all_differ}
-use Rattle.ih_arguments.specs.Matches.{text_at}
+use Rattle.ih_commands.specs.Below.Arguments.{App, Date, DateParts, Row, Text, all_differ, date_parts, files_app, first_of, named, optional, text_at, with_rule}
+use Rattle.ih_commands.specs.Below.Endings.{Given, InputFiles, Out, OutcomeState, said_files, writes_one}
 use Rattle.ih_sheet.specs.declared.subjects.Subject.{Subject}
 use Rattle.ih_sheet.specs.declared.subjects.Subject.TheVariants.{Calendar, Nurses, Patients, Rooms, Theatres}
 use Rattle.ih_sheet.specs.Sheets.{IsTable}
-use Rattle.ih_inputs.specs.Reading.{Given, InputFiles, said_files}
-use Rattle.ih_endings.specs.declared.status.Role.TheVariants.{Out}
-use Rattle.ih_frame.specs.Outcomes.{OutcomeState, writes_one}
 use Rattle.ih_commands.specs.Calls.Days.{date_in, names_a_day}
 use Rattle.ih_commands.specs.declared.command.table.Table.{Table}
 

@@ -1,16 +1,8 @@
 -- The command `view`: its description for `clap`, its values and what it comes to.
 use Rattle.std.specs.Prelude.{◌≡◌, ◌&&◌, List, [], ◌∷◌, Option, Some, None, codes, if◌then◌else◌, option_and_then, option_map, option_to_list, unwrap_or}
-use Rattle.clap.specs.Words.{App, Row, Text, first_of, with_rule}
-use Rattle.jiff.specs.Types.{Date}
-use Rattle.jiff.specs.Words.{date_parts}
-use Rattle.jiff_fmt.specs.Temporal.{DateParts}
-use Rattle.ih_arguments.specs.Arguments.{files_app, named, optional}
-use Rattle.ih_arguments.specs.Distinct.{all_differ}
-use Rattle.ih_arguments.specs.Matches.{text_at}
+use Rattle.ih_commands.specs.Below.Arguments.{App, Date, DateParts, Row, Text, all_differ, date_parts, files_app, first_of, named, optional, text_at, with_rule}
+use Rattle.ih_commands.specs.Below.Endings.{Given, InputFiles, Out, OutcomeState, said_files, writes_one}
 use Rattle.ih_page.specs.Page.{HeadingTexts, page_of}
-use Rattle.ih_inputs.specs.Reading.{Given, InputFiles, said_files}
-use Rattle.ih_endings.specs.declared.status.Role.TheVariants.{Out}
-use Rattle.ih_frame.specs.Outcomes.{OutcomeState, writes_one}
 use Rattle.ih_commands.specs.Calls.Days.{date_in, names_a_day}
 use Rattle.ih_commands.specs.declared.command.view.View.{View}
 

@@ -1,19 +1,14 @@
 -- The command `why`: its description for `clap`, its values and what it comes to.
 use Rattle.std.specs.Prelude.{◌≡◌, ◌≢◌, ◌⊎◌, ◌==◌, ℕ, ◌≤◌, Bool, List, [], ◌++◌, length, Option, Some, None, codes, if◌then◌else◌, option_map, unwrap_or}
-use Rattle.clap.specs.Words.{App, Row, Text, first_of, new_app, with_rule}
-use Rattle.ih_tables.specs.declared.drafts.Draft.{Draft}
-use Rattle.ih_plan.specs.Timetable.{Timetable}
-use Rattle.ih_plan.specs.declared.limits.TheConstants.{MAX_WORKERS}
-use Rattle.ih_bound.specs.Bounds.{NoneIsFeasible}
+use Rattle.ih_commands.specs.Below.Wards.{Draft, MAX_WORKERS, Timetable}
+use Rattle.ih_commands.specs.Below.Arguments.{App, Row, Text, first_of, named, new_app, number_if_given, optional_between, optional_name, text_at, with_rule}
+use Rattle.ih_commands.specs.Below.Endings.{Given, InputFiles, OutcomeState, said_files, says}
+use Rattle.ih_commands.specs.Below.Searches.{NoneIsFeasible}
 use Rattle.ih_why.specs.Account.{account}
 use Rattle.ih_why.specs.Shortages.{IsToldTogether}
 use Rattle.ih_waiting.specs.Waiting.{waiting_text}
 use Rattle.ih_mends.specs.Texts.{mends_text}
 use Rattle.ih_warnings.specs.Warnings.{warnings}
-use Rattle.ih_arguments.specs.Arguments.{named, optional_between, optional_name}
-use Rattle.ih_arguments.specs.Matches.{number_if_given, text_at}
-use Rattle.ih_inputs.specs.Reading.{Given, InputFiles, said_files}
-use Rattle.ih_frame.specs.Outcomes.{OutcomeState, says}
 use Rattle.ih_commands.specs.Calls.Bound.{judged_status}
 use Rattle.ih_commands.specs.declared.command.common.TheConstants.{DEFAULT_WORKERS}
 use Rattle.ih_commands.specs.declared.command.why.Why.{Why}

@@ -1,13 +1,15 @@
 -- How the words of any command are read.
 use Rattle.std.specs.Prelude.{◌≡◌, ◌≢◌, true, List, Option, None}
-use Rattle.clap.specs.Words.{App, Text, is_simple_and_free}
-use Rattle.clap.specs.declared.parser.matches.ArgMatches.{ArgMatches}
-use Rattle.ih_arguments.specs.Arguments.{app_by}
-use Rattle.ih_arguments.specs.Explaining.{IsNoHelp}
+use Rattle.ih_commands.specs.Below.Arguments.{App, ArgMatches, IsNoHelp, NoCall, OutOfMemory, Row, Text, app_by, is_simple_and_free}
 use Rattle.ih_arguments.specs.Rules.{AreMatches, has_independent_rules}
 use Rattle.ih_arguments.specs.declared.arguments.Description.{Description}
-use Rattle.ih_arguments.specs.declared.explaining.NoCall.{NoCall}
-use Rattle.ih_arguments.specs.declared.explaining.NoCall.TheVariants.{OutOfMemory}
+
+-- How words give values that stand for a call: the command, as `clap` has it, the call of values, and the call that `clap`'s
+-- matches give, if it is lawful.
+pub record Wording (Values Call : Type 0) : Type 0 where
+  pub app : App
+  pub call : Values → Call
+  pub lawful : List Row → Option Call
 
 -- The description is the command's, each of whose rules `clap` can read by itself.
 pub record IsDescribed (app : App) (d : Description) : Type 0 where

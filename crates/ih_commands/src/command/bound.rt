@@ -1,19 +1,17 @@
 //! The command `bound`: its description for `clap`, its values and what it comes to.
 
 ghost use Rattle.std.specs.Prelude.{◌≡◌, ◌++◌, IfOk};
-ghost use Rattle.clap.specs.Words.{found_of, rows_of};
-ghost use Rattle.ih_bound.specs.{Hints.HasPrices, Texts.bound_text};
-ghost use Rattle.ih_plan.specs.Timetable.{IsPlanOf};
-ghost use Rattle.ih_frame.specs.Outcomes.{IsOwnStatus};
+ghost use Rattle.ih_commands.specs.Below.Wards.{IsPlanOf};
+ghost use Rattle.ih_commands.specs.Below.Arguments.{found_of, rows_of};
+ghost use Rattle.ih_commands.specs.Below.Endings.{IsOwnStatus};
+ghost use Rattle.ih_commands.specs.Below.Searches.{HasPrices, bound_text};
 ghost use Rattle.ih_commands.specs.Calls.Bound.{BoundCall, HasBound, HasFewWorkers, IsBounded, IsToldOf, bound_app};
 ghost use Rattle.ih_commands.specs.Calls.Bound.{bound_call, bound_in, bound_inputs, judged_of, judged_status};
 ghost use Rattle.ih_commands.specs.Calls.Bound.{lawful_bound};
-ghost use Rattle.ih_commands.specs.Calls.Worded.{IsDescribed};
 
 use crate::command::calls::Worded;
-use crate::command::common::{DEFAULT_WORKERS, INSTANCE, WORKERS, said_names};
+use crate::command::common::{DEFAULT_WORKERS, INSTANCE, Made, WORKERS, arguments, said_names};
 use clap::ArgMatches;
-use ih_arguments::argument;
 use ih_arguments::arguments::{Argument, Description, Kind};
 use ih_arguments::explaining::NoCall;
 use ih_arguments::matches::{flag_of, number_if_given, optional_text_of, text_of};
@@ -53,24 +51,12 @@ pub const BOUND: Description<'static, 'static> = Description {
     name: "bound",
     about: "Says what no feasible timetable costs less than",
     called: "ih_planner bound",
-    arguments: &[
-        INSTANCE,
-        argument!(
-            "SOLUTION",
-            Kind::OptionalNamed,
-            "The file of a solution, which is compared with the best"
-        ),
-        argument!(
-            "rounds",
-            Kind::OptionalNumber(1, MAX_BOUND_ROUNDS),
-            "How often prices are tried at most [default: 1500]"
-        ),
-        WORKERS,
-        argument!(
-            "prices",
-            Kind::Flag,
-            "Say where one more bed, or more time of a surgeon or a theatre, would help"
-        ),
+    arguments: &arguments![
+        INSTANCE;
+        "SOLUTION" => Kind::OptionalNamed, "The file of a solution, which is compared with the best";
+        "rounds" => Kind::OptionalNumber(1, MAX_BOUND_ROUNDS), "How often prices are tried at most [default: 1500]";
+        WORKERS;
+        "prices" => Kind::Flag, "Say where one more bed, or more time of a surgeon or a theatre, would help";
     ],
 };
 
@@ -92,20 +78,9 @@ fn bound_in<'a>(matches: &ArgMatches<'a>) -> Bound<'a>
 impl<'a> Worded<'a> for Bound<'a> {
     ghost Call = { BoundCall };
 
-    ghost app = { bound_app };
-
-    ghost call = { bound_call };
-
-    ghost lawful = { lawful_bound };
+    ghost wording = { record { app = bound_app; call = bound_call; lawful = lawful_bound } };
 
     ghost holds = { HasFewWorkers };
-
-    #[tactic(auto, unfolding(crate::specs::Calls::Bound::bound_app, crate::proofs::Described::on_descriptions))]
-    fn description() -> Description<'static, 'static>
-        ensures { IsDescribed bound_app result }
-    {
-        BOUND
-    }
 
     fn of_matches(_alloc: Global, matches: &ArgMatches<'a>) -> Result<Bound<'a>, NoCall> {
         Ok(bound_in(matches))
@@ -177,12 +152,7 @@ impl<'b> ih_frame::Command for Bound<'b> {
         said_names(self.instance, self.solution)
     }
 
-    fn outcome<'a, R: Threads + Wait + Sync>(
-        &'a self,
-        rt: &R,
-        alloc: Global,
-        inputs: Inputs,
-    ) -> Result<Outcome<'a>, AllocError> {
+    fn outcome<R: Threads + Wait + Sync>(&self, rt: &R, alloc: Global, inputs: Inputs) -> Made<'_> {
         let judged = judged_of(self, &inputs);
         let found = bound_with_prices(rt, alloc, &*inputs.inst, self.rounds, self.workers)?;
         let hints = hints_of(alloc, self, &*inputs.inst, &found)?;

@@ -1,18 +1,15 @@
 //! The command `carry`: its description for `clap`, its values and what it comes to.
 
 ghost use Rattle.std.specs.Prelude.{◌≡◌, codes};
-ghost use Rattle.clap.specs.Words.{found_of, rows_of};
-ghost use Rattle.ih_plan.specs.declared.limits.TheConstants.{MAX_FREEZE};
-ghost use Rattle.ih_arguments.specs.{Distinct.all_differ, Matches.IsNumberIfGiven};
-ghost use Rattle.ih_inputs.specs.Reading.{given_of};
+ghost use Rattle.ih_commands.specs.Below.Wards.{MAX_FREEZE};
+ghost use Rattle.ih_commands.specs.Below.Arguments.{IsNumberIfGiven, all_differ, found_of, rows_of};
+ghost use Rattle.ih_commands.specs.Below.Endings.{given_of};
 ghost use Rattle.ih_commands.specs.Calls.Carry.{CarryCall, IsCarriedOver, carry_app, carry_call, carry_files, carry_in};
 ghost use Rattle.ih_commands.specs.Calls.Carry.{carry_inputs, lawful_carry, next_ward};
-ghost use Rattle.ih_commands.specs.Calls.Worded.{IsDescribed};
 
 use crate::command::calls::Worded;
-use crate::command::common::{equal_names, said_names};
+use crate::command::common::{Made, arguments, equal_names, said_names};
 use clap::ArgMatches;
-use ih_arguments::argument;
 use ih_arguments::arguments::{Argument, Description, Kind};
 use ih_arguments::explaining::NoCall;
 use ih_arguments::file_names::names_differ;
@@ -24,7 +21,7 @@ use ih_inputs::{InputNames, Inputs};
 use ih_plan::MAX_FREEZE;
 use ih_solution::write_solution;
 use ih_tables::Instance;
-use std::alloc::{AllocError, Global};
+use std::alloc::Global;
 use std::sync::Wait;
 use std::thread::Threads;
 
@@ -48,24 +45,13 @@ pub const CARRY: Description<'static, 'static> = Description {
     name: "carry",
     about: "Carries a plan over to a ward that has changed",
     called: "ih_planner carry",
-    arguments: &[
-        argument!("OLD_WARD", Kind::Named, "The file of the ward's instance"),
-        argument!("OLD_PLAN", Kind::Named, "The file of its solution"),
-        argument!(
-            "NEW_WARD",
-            Kind::Named,
-            "The file of the instance of the ward as it is now"
-        ),
-        argument!(
-            "NEW_PLAN",
-            Kind::Named,
-            "The file that the new ward's solution is written to"
-        ),
-        argument!(
-            "days",
-            Kind::OptionalNumber(0, MAX_FREEZE),
-            "The day of the old ward that is day 0 of the new one [default: 0]"
-        ),
+    arguments: &arguments![
+        "OLD_WARD" => Kind::Named, "The file of the ward's instance";
+        "OLD_PLAN" => Kind::Named, "The file of its solution";
+        "NEW_WARD" => Kind::Named, "The file of the instance of the ward as it is now";
+        "NEW_PLAN" => Kind::Named, "The file that the new ward's solution is written to";
+        "days" => Kind::OptionalNumber(0, MAX_FREEZE),
+            "The day of the old ward that is day 0 of the new one [default: 0]";
     ],
 };
 
@@ -93,20 +79,7 @@ fn files_differ(carry: &Carry) -> bool
 impl<'a> Worded<'a> for Carry<'a> {
     ghost Call = { CarryCall };
 
-    ghost app = { carry_app };
-
-    ghost call = { carry_call };
-
-    ghost lawful = { lawful_carry };
-
-    ghost holds = { λ c. Unit {0} };
-
-    #[tactic(auto, unfolding(crate::specs::Calls::Carry::carry_app, crate::proofs::Described::on_descriptions))]
-    fn description() -> Description<'static, 'static>
-        ensures { IsDescribed carry_app result }
-    {
-        CARRY
-    }
+    ghost wording = { record { app = carry_app; call = carry_call; lawful = lawful_carry } };
 
     fn of_matches(alloc: Global, matches: &ArgMatches<'a>) -> Result<Carry<'a>, NoCall> {
         let carry = carry_in(matches);
@@ -142,12 +115,7 @@ impl<'c> ih_frame::Command for Carry<'c> {
         }
     }
 
-    fn outcome<'a, R: Threads + Wait + Sync>(
-        &'a self,
-        _rt: &R,
-        alloc: Global,
-        inputs: Inputs,
-    ) -> Result<Outcome<'a>, AllocError> {
+    fn outcome<R: Threads + Wait + Sync>(&self, _: &R, alloc: Global, inputs: Inputs) -> Made<'_> {
         let handover = Handover {
             ward: &*inputs.inst,
             plan: &inputs.plan,

@@ -1,14 +1,11 @@
 //! The command `check`: its description for `clap`, its values and what it comes to.
 
-ghost use Rattle.std.specs.Prelude.{◌≡◌};
-ghost use Rattle.clap.specs.Words.{found_of, rows_of};
-ghost use Rattle.ih_commands.specs.Calls.Check.{CheckCall, IsChecked, check_app, check_call, check_in, check_inputs};
+ghost use Rattle.ih_commands.specs.Calls.Check.{CheckCall, IsChecked, check_app, check_call, check_inputs};
 ghost use Rattle.ih_commands.specs.Calls.Check.{lawful_check};
-ghost use Rattle.ih_commands.specs.Calls.Worded.{IsDescribed};
 
 use crate::command::bound::judged_status;
 use crate::command::calls::Worded;
-use crate::command::common::{INSTANCE, SOLUTION, said_names};
+use crate::command::common::{INSTANCE, Made, SOLUTION, said_names};
 use clap::ArgMatches;
 use ih_arguments::arguments::Description;
 use ih_arguments::explaining::NoCall;
@@ -16,7 +13,7 @@ use ih_arguments::matches::text_of;
 use ih_frame::Outcome;
 use ih_inputs::{InputNames, Inputs};
 use ih_validate::{bill, report};
-use std::alloc::{AllocError, Global};
+use std::alloc::Global;
 use std::sync::Wait;
 use std::thread::Threads;
 
@@ -37,36 +34,16 @@ pub const CHECK: Description<'static, 'static> = Description {
     arguments: &[INSTANCE, SOLUTION],
 };
 
-// The values of `check`.
-fn check_in<'a>(matches: &ArgMatches<'a>) -> Check<'a>
-    ensures { check_call result ≡ check_in (rows_of (found_of matches.now)) }
-{
-    Check {
-        instance: text_of(matches, "INSTANCE"),
-        solution: text_of(matches, "SOLUTION"),
-    }
-}
-
 impl<'a> Worded<'a> for Check<'a> {
     ghost Call = { CheckCall };
 
-    ghost app = { check_app };
-
-    ghost call = { check_call };
-
-    ghost lawful = { lawful_check };
-
-    ghost holds = { λ c. Unit {0} };
-
-    #[tactic(auto, unfolding(crate::specs::Calls::Check::check_app, crate::proofs::Described::on_descriptions))]
-    fn description() -> Description<'static, 'static>
-        ensures { IsDescribed check_app result }
-    {
-        CHECK
-    }
+    ghost wording = { record { app = check_app; call = check_call; lawful = lawful_check } };
 
     fn of_matches(_alloc: Global, matches: &ArgMatches<'a>) -> Result<Check<'a>, NoCall> {
-        Ok(check_in(matches))
+        Ok(Check {
+            instance: text_of(matches, "INSTANCE"),
+            solution: text_of(matches, "SOLUTION"),
+        })
     }
 }
 
@@ -81,12 +58,7 @@ impl<'c> ih_frame::Command for Check<'c> {
         said_names(self.instance, Some(self.solution))
     }
 
-    fn outcome<'a, R: Threads + Wait + Sync>(
-        &'a self,
-        _rt: &R,
-        alloc: Global,
-        inputs: Inputs,
-    ) -> Result<Outcome<'a>, AllocError> {
+    fn outcome<R: Threads + Wait + Sync>(&self, _: &R, alloc: Global, inputs: Inputs) -> Made<'_> {
         let costs = bill(&*inputs.inst, &inputs.plan);
         let text = report(alloc, &*inputs.inst, &costs)?;
         let status = judged_status(costs.feasible());

@@ -1,15 +1,35 @@
 //! The arguments and the files that several commands have, and what is said of several.
 
 ghost use Rattle.std.specs.Prelude.{◌≡◌, option_map};
-ghost use Rattle.ih_arguments.specs.Explaining.{IsNoHelp};
-ghost use Rattle.ih_inputs.specs.Reading.{files_of, said_files};
+ghost use Rattle.ih_commands.specs.Below.Arguments.{IsNoHelp};
+ghost use Rattle.ih_commands.specs.Below.Endings.{files_of, said_files};
 
 use ih_arguments::argument;
 use ih_arguments::arguments::{Argument, Kind};
 use ih_arguments::explaining::{NoCall, refused};
+use ih_frame::Outcome;
 use ih_inputs::InputNames;
 use ih_plan::MAX_WORKERS;
-use std::alloc::Global;
+use std::alloc::{AllocError, Global};
+
+/// What a command comes to, unless memory ran out.
+pub type Made<'a> = Result<Outcome<'a>, AllocError>;
+
+// The table of a command's arguments, in order. A row is an argument that several commands have, or an id with its kind
+// and what the help says of it.
+macro_rules! arguments {
+    (@row $argument:expr) => {
+        $argument
+    };
+    (@row $id:expr => $kind:expr, $help:expr) => {
+        Argument { id: $id, kind: $kind, help: $help }
+    };
+    ($($first:expr $(=> $kind:expr, $help:expr)?);+ $(;)?) => {
+        [$(arguments!(@row $first $(=> $kind, $help)?)),+]
+    };
+}
+
+pub(crate) use arguments;
 
 /// The file of the instance.
 pub const INSTANCE: Argument<'static> = argument!(

@@ -1,9 +1,7 @@
 //! The day that `--from` names.
 
 ghost use Rattle.std.specs.Prelude.{◌≡◌, is_some, codes, not, option_and_then, option_map};
-ghost use Rattle.clap.specs.Words.{first_of, found_of, rows_of};
-ghost use Rattle.jiff.specs.Words.{date_parts};
-ghost use Rattle.ih_arguments.specs.Explaining.{IsNoHelp};
+ghost use Rattle.ih_commands.specs.Below.Arguments.{IsNoHelp, date_parts, first_of, found_of, rows_of};
 ghost use Rattle.ih_commands.specs.Calls.Days.{date_in, names_a_day};
 
 use clap::ArgMatches;

@@ -1,25 +1,20 @@
 //! The command `improve`: its description for `clap`, its values and when they are lawful.
 
-ghost use Rattle.std.specs.Prelude.{◌≡◌, ◌&&◌, ◌||◌, ◌*◌, ◌∷◌, ◌++◌, codes, false, is_some, map, nat_le, not};
-ghost use Rattle.std.specs.Prelude.{option_map, option_to_list, true, unwrap_or};
-ghost use Rattle.clap.specs.Words.{found_of, rows_of};
-ghost use Rattle.ih_arguments.specs.{Distinct.all_differ};
-ghost use Rattle.ih_arguments.specs.{Matches.IsNumberIfGiven, Matches.number_if_given};
-ghost use Rattle.ih_arguments.specs.{Matches.texts_at, Start.freezes_a_file, Start.start_call};
+ghost use Rattle.std.specs.Prelude.{◌&&◌, ◌*◌, ◌++◌, ◌||◌, ◌∷◌, ◌≡◌, codes, is_some, map, nat_le, not, option_map};
+ghost use Rattle.std.specs.Prelude.{option_to_list, true, unwrap_or};
+ghost use Rattle.ih_commands.specs.Below.Arguments.{IsNumberIfGiven, all_differ, found_of, freezes_a_file};
+ghost use Rattle.ih_commands.specs.Below.Arguments.{number_if_given, rows_of, start_call, texts_at};
+ghost use Rattle.ih_commands.specs.Below.Searches.{MAX_KEEP};
 ghost use Rattle.ih_commands.specs.Calls.Improve.{AreOptionsWithin, HasImprove, ImproveCall, IsLawfulCall};
-ghost use Rattle.ih_commands.specs.Calls.Improve.{are_names_apart, are_settings_lawful, improve_app, improve_call};
-ghost use Rattle.ih_commands.specs.Calls.Improve.{improve_in, lawful_improve};
-ghost use Rattle.ih_commands.specs.Calls.Improve.{are_options_apart, filled_start_in, length_of};
-ghost use Rattle.ih_commands.specs.Calls.Improve.{default_rounds, keep_in, keeps_a_file};
-ghost use Rattle.ih_improve.specs.declared.settings.TheConstants.{MAX_KEEP};
+ghost use Rattle.ih_commands.specs.Calls.Improve.{are_names_apart, are_options_apart, are_settings_lawful};
+ghost use Rattle.ih_commands.specs.Calls.Improve.{default_rounds, filled_start_in, improve_app, improve_call};
+ghost use Rattle.ih_commands.specs.Calls.Improve.{improve_in, keep_in, keeps_a_file, lawful_improve, length_of};
 ghost use Rattle.ih_commands.specs.Pacing.{attempts_of};
-ghost use Rattle.ih_commands.specs.Calls.Worded.{IsDescribed};
 
 use crate::command::calls::Worded;
-use crate::command::common::INSTANCE;
+use crate::command::common::{INSTANCE, arguments};
 use crate::pacing::{Length, MAX_CALL_ATTEMPTS, MAX_CALL_ROUNDS, MAX_SECONDS, Pace};
 use clap::ArgMatches;
-use ih_arguments::argument;
 use ih_arguments::arguments::{Argument, Description, Kind};
 use ih_arguments::explaining::{NoCall, refused};
 use ih_arguments::file_names::all_differ;
@@ -29,7 +24,7 @@ use ih_arguments::matches::{
 use ih_arguments::start::{FILL, FREEZE, START, Start, freezes_a_file, start_in, takes_a_file};
 use ih_improve::{Given, MAX_KEEP};
 use ih_plan::{MAX_FREEZE, MAX_HARD, MAX_HEAT, MAX_WORKERS};
-use std::alloc::{AllocError, Global};
+use std::alloc::Global;
 
 /// How many rounds of attempts there are where no number is given.
 pub const DEFAULT_ROUNDS: u32 = 20;
@@ -70,91 +65,30 @@ pub const IMPROVE: Description<'static, 'static> = Description {
     name: "improve",
     about: "Searches for a better plan, and writes the best so far after each round that improved it",
     called: "ih_planner improve",
-    arguments: &[
-        INSTANCE,
-        argument!(
-            "OUT",
-            Kind::Named,
-            "The file that the best plan is written to"
-        ),
-        argument!(
-            "seconds",
-            Kind::OptionalNumber(1, MAX_SECONDS),
-            "How long the search takes; not with '--attempts' [default: 60]"
-        ),
-        argument!(
-            "attempts",
-            Kind::OptionalAnyNumber,
-            "How many attempts each worker makes, in place of a time"
-        ),
-        argument!(
-            "seed",
-            Kind::OptionalAnyNumber,
-            "Where the random numbers begin [default: 1]"
-        ),
-        argument!(
-            "workers",
-            Kind::OptionalNumber(1, MAX_WORKERS),
-            "How many search side by side [default: as many as processors]"
-        ),
-        argument!(
-            "rounds",
-            Kind::OptionalNumber(1, MAX_CALL_ROUNDS),
-            "How often the best plan goes out to all workers [default: 20, by the clock about 40]"
-        ),
-        argument!(
-            "hot",
-            Kind::OptionalNumber(0, MAX_HEAT),
-            "The temperature at the first attempt [default: by the weights]"
-        ),
-        argument!(
-            "cold",
-            Kind::OptionalNumber(0, MAX_HEAT),
-            "The temperature at the last attempt [default: by the weights]"
-        ),
-        argument!(
-            "hard",
-            Kind::OptionalNumber(0, MAX_HARD),
-            "The weight of a broken hard rule [default: by the weights]"
-        ),
-        START,
-        FREEZE,
-        FILL,
-        argument!(
-            "empty",
-            Kind::Flag,
-            "Starts from nobody, and doesn't fill that; not with '--start' or '--fill'"
-        ),
-        argument!(
-            "draft",
-            Kind::Optional,
-            "The file that the plan with the least score goes to, where none keeps to all rules"
-        ),
-        argument!(
-            "replace",
-            Kind::Flag,
-            "Writes OUT whatever is there; else a cheaper plan stays"
-        ),
-        argument!(
-            "keep",
-            Kind::OptionalNumber(0, MAX_KEEP),
-            "What each change against the start weighs; it needs '--start' [default: by the weights]"
-        ),
-        argument!(
-            "pin",
-            Kind::Repeated,
-            "The id of a patient who stays as in the start; it needs '--start'"
-        ),
-        argument!(
-            "pin-nurses",
-            Kind::Flag,
-            "Leaves the nurses of all rooms that the start occupies; it needs '--start'"
-        ),
-        argument!(
-            "bound",
-            Kind::Flag,
-            "Says first what no plan costs less than, and in each line how far the best may be above the best possible"
-        ),
+    arguments: &arguments![
+        INSTANCE;
+        "OUT" => Kind::Named, "The file that the best plan is written to";
+        "seconds" => Kind::OptionalNumber(1, MAX_SECONDS),
+            "How long the search takes; not with '--attempts' [default: 60]";
+        "attempts" => Kind::OptionalAnyNumber, "How many attempts each worker makes, in place of a time";
+        "seed" => Kind::OptionalAnyNumber, "Where the random numbers begin [default: 1]";
+        "workers" => Kind::OptionalNumber(1, MAX_WORKERS),
+            "How many search side by side [default: as many as processors]";
+        "rounds" => Kind::OptionalNumber(1, MAX_CALL_ROUNDS),
+            "How often the best plan goes out to all workers [default: 20, by the clock about 40]";
+        "hot" => Kind::OptionalNumber(0, MAX_HEAT), "The temperature at the first attempt [default: by the weights]";
+        "cold" => Kind::OptionalNumber(0, MAX_HEAT), "The temperature at the last attempt [default: by the weights]";
+        "hard" => Kind::OptionalNumber(0, MAX_HARD), "The weight of a broken hard rule [default: by the weights]";
+        START; FREEZE; FILL;
+        "empty" => Kind::Flag, "Starts from nobody, and doesn't fill that; not with '--start' or '--fill'";
+        "draft" => Kind::Optional, "The file that the plan with the least score goes to, where none keeps to all rules";
+        "replace" => Kind::Flag, "Writes OUT whatever is there; else a cheaper plan stays";
+        "keep" => Kind::OptionalNumber(0, MAX_KEEP),
+            "What each change against the start weighs; it needs '--start' [default: by the weights]";
+        "pin" => Kind::Repeated, "The id of a patient who stays as in the start; it needs '--start'";
+        "pin-nurses" => Kind::Flag, "Leaves the nurses of all rooms that the start occupies; it needs '--start'";
+        "bound" => Kind::Flag,
+            "Says first what no plan costs less than, and in each line how far the best may be above the best possible";
     ],
 };
 
@@ -208,8 +142,7 @@ fn keep_in(matches: &ArgMatches) -> Option<u32>
 fn improve_in<'a>(matches: &ArgMatches<'a>, pins: Vec<&'a str>) -> Improve<'a>
     requires rows { HasImprove (rows_of (found_of matches.now)) }
     requires pins { map (λ t. t.now) pins.items ≡ texts_at (codes "pin") (rows_of (found_of matches.now)) }
-    ensures value { improve_call result ≡ improve_in (rows_of (found_of matches.now)) }
-    ensures limits { AreOptionsWithin (improve_call result) }
+    ensures { improve_call result ≡ improve_in (rows_of (found_of matches.now)) }
 {
     let length = length_of(
         any_number_if_given(matches, "attempts"),
@@ -352,20 +285,9 @@ fn fault_in(matches: &ArgMatches, improve: &Improve) -> Option<&'static str>
 impl<'a> Worded<'a> for Improve<'a> {
     ghost Call = { ImproveCall };
 
-    ghost app = { improve_app };
-
-    ghost call = { improve_call };
-
-    ghost lawful = { lawful_improve };
+    ghost wording = { record { app = improve_app; call = improve_call; lawful = lawful_improve } };
 
     ghost holds = { λ i. IsLawfulCall (improve_call i) };
-
-    #[tactic(auto, unfolding(crate::specs::Calls::Improve::improve_app, crate::proofs::Described::on_descriptions))]
-    fn description() -> Description<'static, 'static>
-        ensures { IsDescribed improve_app result }
-    {
-        IMPROVE
-    }
 
     fn of_matches(alloc: Global, matches: &ArgMatches<'a>) -> Result<Improve<'a>, NoCall> {
         let improve = improve_in(matches, texts_of(alloc, matches, "pin")?);

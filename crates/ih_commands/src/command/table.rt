@@ -1,20 +1,15 @@
 //! The command `table`: its description for `clap`, its values and what it comes to.
 
-ghost use Rattle.std.specs.Prelude.{◌≡◌, IfSome, codes, is_some, not, option_and_then, option_map};
-ghost use Rattle.clap.specs.Words.{first_of, found_of, rows_of};
-ghost use Rattle.jiff.specs.Words.{date_parts};
-ghost use Rattle.ih_arguments.specs.{Distinct.all_differ, Explaining.IsNoHelp};
-ghost use Rattle.ih_commands.specs.Calls.Days.{date_in};
+ghost use Rattle.std.specs.Prelude.{◌≡◌, IfSome, is_some, not};
+ghost use Rattle.ih_commands.specs.Below.Arguments.{IsNoHelp, all_differ, found_of, rows_of};
 ghost use Rattle.ih_commands.specs.Calls.Table.{IsTabled, TableCall, has_dates, has_table_words, lawful_table};
 ghost use Rattle.ih_commands.specs.Calls.Table.{needs_dates, subject_at, subject_in, table_app, table_call, table_files};
 ghost use Rattle.ih_commands.specs.Calls.Table.{table_in, table_inputs};
-ghost use Rattle.ih_commands.specs.Calls.Worded.{IsDescribed};
 
 use crate::command::calls::Worded;
-use crate::command::common::{INSTANCE, SOLUTION, equal_names, said_names};
+use crate::command::common::{INSTANCE, Made, SOLUTION, arguments, equal_names, said_names};
 use crate::command::days::{FROM, first_day, no_day, refused_day};
 use clap::ArgMatches;
-use ih_arguments::argument;
 use ih_arguments::arguments::{Argument, Description, Kind};
 use ih_arguments::explaining::{NoCall, refused};
 use ih_arguments::file_names::names_differ;
@@ -24,7 +19,7 @@ use ih_frame::Outcome;
 use ih_inputs::{InputNames, Inputs};
 use ih_sheet::{Subject, table};
 use jiff::civil::Date;
-use std::alloc::{AllocError, Global};
+use std::alloc::Global;
 use std::sync::Wait;
 use std::thread::Threads;
 
@@ -48,16 +43,12 @@ pub const TABLE: Description<'static, 'static> = Description {
     name: "table",
     about: "Writes a solution's timetable as a table for a spreadsheet, or as a calendar",
     called: "ih_planner table",
-    arguments: &[
-        INSTANCE,
-        SOLUTION,
-        argument!("OUT", Kind::Named, "The file that the table is written to"),
-        FROM,
-        argument!(
-            "of",
-            Kind::Optional,
-            "What the rows are about: patients, nurses, rooms or theatres; or calendar, for an event a surgery [default: patients]"
-        ),
+    arguments: &arguments![
+        INSTANCE; SOLUTION;
+        "OUT" => Kind::Named, "The file that the table is written to";
+        FROM;
+        "of" => Kind::Optional,
+            "What the rows are about: patients, nurses, rooms or theatres; or calendar, for an event a surgery [default: patients]";
     ],
 };
 
@@ -156,20 +147,7 @@ fn refused_words(alloc: Global, matches: &ArgMatches, table: &Table) -> Option<N
 impl<'a> Worded<'a> for Table<'a> {
     ghost Call = { TableCall };
 
-    ghost app = { table_app };
-
-    ghost call = { table_call };
-
-    ghost lawful = { lawful_table };
-
-    ghost holds = { λ t. Unit {0} };
-
-    #[tactic(auto, unfolding(crate::specs::Calls::Table::table_app, crate::proofs::Described::on_descriptions))]
-    fn description() -> Description<'static, 'static>
-        ensures { IsDescribed table_app result }
-    {
-        TABLE
-    }
+    ghost wording = { record { app = table_app; call = table_call; lawful = lawful_table } };
 
     fn of_matches(alloc: Global, matches: &ArgMatches<'a>) -> Result<Table<'a>, NoCall> {
         let table = table_in(matches);
@@ -194,12 +172,7 @@ impl<'t> ih_frame::Command for Table<'t> {
         said_names(self.instance, Some(self.solution))
     }
 
-    fn outcome<'a, R: Threads + Wait + Sync>(
-        &'a self,
-        _rt: &R,
-        alloc: Global,
-        inputs: Inputs,
-    ) -> Result<Outcome<'a>, AllocError> {
+    fn outcome<R: Threads + Wait + Sync>(&self, _: &R, alloc: Global, inputs: Inputs) -> Made<'_> {
         let bytes = table(alloc, self.of, &*inputs.inst, &inputs.plan, self.from)?;
         Outcome::written(alloc, Role::Out, self.out, bytes, Vec::new(alloc))
     }

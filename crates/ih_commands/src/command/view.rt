@@ -1,27 +1,25 @@
 //! The command `view`: its description for `clap`, its values and what it comes to.
 
 ghost use Rattle.std.specs.Prelude.{◌≡◌};
-ghost use Rattle.clap.specs.Words.{found_of, rows_of};
-ghost use Rattle.ih_arguments.specs.Distinct.{all_differ};
-ghost use Rattle.ih_commands.specs.Calls.View.{IsViewed, ViewCall, lawful_view, view_app, view_call, view_files};
-ghost use Rattle.ih_commands.specs.Calls.View.{view_in, view_inputs};
-ghost use Rattle.ih_commands.specs.Calls.Worded.{IsDescribed};
+ghost use Rattle.ih_commands.specs.Below.Arguments.{all_differ, found_of, rows_of};
+ghost use Rattle.ih_page.specs.Page.{heading_texts};
+ghost use Rattle.ih_commands.specs.Calls.View.{IsViewed, ViewCall, heading_of, lawful_view, view_app, view_call};
+ghost use Rattle.ih_commands.specs.Calls.View.{view_files, view_in, view_inputs};
 
 use crate::command::calls::Worded;
-use crate::command::common::{INSTANCE, SOLUTION, equal_names, said_names};
+use crate::command::common::{INSTANCE, Made, SOLUTION, arguments, equal_names, said_names};
 use crate::command::days::{FROM, first_day, no_day, refused_day};
 use clap::ArgMatches;
-use ih_arguments::argument;
 use ih_arguments::arguments::{Argument, Description, Kind};
 use ih_arguments::explaining::NoCall;
-use ih_arguments::file_names::all_differ;
+use ih_arguments::file_names::names_differ;
 use ih_arguments::matches::{optional_text_of, text_of};
 use ih_endings::Role;
 use ih_frame::Outcome;
 use ih_inputs::{InputNames, Inputs};
 use ih_page::{Heading, page};
 use jiff::civil::Date;
-use std::alloc::{AllocError, Global};
+use std::alloc::Global;
 use std::sync::Wait;
 use std::thread::Threads;
 
@@ -42,48 +40,17 @@ pub struct View<'a> {
     pub title: Option<&'a str>,
 }
 
-impl<'a> View<'a> {
-    ghost use Rattle.std.specs.Prelude.{◌≡◌};
-    ghost use Rattle.ih_page.specs.Page.{heading_texts};
-    ghost use Rattle.ih_commands.specs.Calls.View.{heading_of, view_call};
-
-    // What stands over the page: the instance's name, where there is no title.
-    fn heading(&self) -> Heading<'a>
-        ensures { heading_texts result ≡ heading_of (view_call self.now) }
-    {
-        let title = match self.title {
-            Some(title) => title,
-            None => self.instance,
-        };
-        Heading {
-            title,
-            instance: self.instance,
-            solution: self.solution,
-            older: self.since,
-        }
-    }
-}
-
 /// `view INSTANCE SOLUTION PAGE [--from DATE] [--since OLDER] [--title TEXT]`.
 pub const VIEW: Description<'static, 'static> = Description {
     name: "view",
     about: "Writes a solution's timetable as a page",
     called: "ih_planner view",
-    arguments: &[
-        INSTANCE,
-        SOLUTION,
-        argument!("PAGE", Kind::Named, "The file that the page is written to"),
-        FROM,
-        argument!(
-            "since",
-            Kind::Optional,
-            "The file of an older solution: the page says what changed"
-        ),
-        argument!(
-            "title",
-            Kind::Optional,
-            "What stands over the page, in place of the instance's name"
-        ),
+    arguments: &arguments![
+        INSTANCE; SOLUTION;
+        "PAGE" => Kind::Named, "The file that the page is written to";
+        FROM;
+        "since" => Kind::Optional, "The file of an older solution: the page says what changed";
+        "title" => Kind::Optional, "What stands over the page, in place of the instance's name";
     ],
 };
 
@@ -102,44 +69,38 @@ fn view_in<'a>(matches: &ArgMatches<'a>) -> View<'a>
 }
 
 // The names of the files differ.
-fn names_differ(view: &View) -> bool
+fn files_differ(view: &View) -> bool
     ensures { result ≡ all_differ (view_files (view_call view.now)) }
 {
-    match view.since {
-        Some(since) => {
-            let names = [view.instance, view.solution, view.page, since];
-            all_differ(names.as_slice())
-        }
-        None => {
-            let names = [view.instance, view.solution, view.page];
-            all_differ(names.as_slice())
-        }
+    names_differ(view.instance, view.solution, view.page, view.since)
+}
+
+// What stands over the page: the instance's name, where there is no title.
+fn heading_of<'a>(view: &View<'a>) -> Heading<'a>
+    ensures { heading_texts result ≡ heading_of (view_call view.now) }
+{
+    let title = match view.title {
+        Some(title) => title,
+        None => view.instance,
+    };
+    Heading {
+        title,
+        instance: view.instance,
+        solution: view.solution,
+        older: view.since,
     }
 }
 
 impl<'a> Worded<'a> for View<'a> {
     ghost Call = { ViewCall };
 
-    ghost app = { view_app };
-
-    ghost call = { view_call };
-
-    ghost lawful = { lawful_view };
-
-    ghost holds = { λ v. Unit {0} };
-
-    #[tactic(auto, unfolding(crate::specs::Calls::View::view_app, crate::proofs::Described::on_descriptions))]
-    fn description() -> Description<'static, 'static>
-        ensures { IsDescribed view_app result }
-    {
-        VIEW
-    }
+    ghost wording = { record { app = view_app; call = view_call; lawful = lawful_view } };
 
     fn of_matches(alloc: Global, matches: &ArgMatches<'a>) -> Result<View<'a>, NoCall> {
         let view = view_in(matches);
         if let Some(word) = no_day(matches, &view.from) {
             Err(refused_day(alloc, word))
-        } else if names_differ(&view) {
+        } else if files_differ(&view) {
             Ok(view)
         } else {
             Err(equal_names(alloc))
@@ -161,14 +122,9 @@ impl<'v> ih_frame::Command for View<'v> {
         }
     }
 
-    fn outcome<'a, R: Threads + Wait + Sync>(
-        &'a self,
-        _rt: &R,
-        alloc: Global,
-        inputs: Inputs,
-    ) -> Result<Outcome<'a>, AllocError> {
+    fn outcome<R: Threads + Wait + Sync>(&self, _: &R, alloc: Global, inputs: Inputs) -> Made<'_> {
         let older = inputs.older.as_ref();
-        let heading = self.heading();
+        let heading = heading_of(self);
         let bytes = page(
             alloc,
             &heading,

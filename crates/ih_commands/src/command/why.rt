@@ -1,20 +1,16 @@
 //! The command `why`: its description for `clap`, its values and what it comes to.
 
-ghost use Rattle.std.specs.Prelude.{◌≡◌, ◌≤◌, ◌++◌, IfOk, codes};
-ghost use Rattle.clap.specs.Words.{found_of, rows_of};
-ghost use Rattle.ih_plan.specs.Timetable.{IsPlanOf};
-ghost use Rattle.ih_plan.specs.declared.limits.TheConstants.{MAX_WORKERS};
-ghost use Rattle.ih_arguments.specs.Matches.{IsNumberIfGiven};
+ghost use Rattle.std.specs.Prelude.{◌≡◌, ◌≤◌, IfOk, codes};
+ghost use Rattle.ih_commands.specs.Below.Wards.{IsPlanOf, MAX_WORKERS};
+ghost use Rattle.ih_commands.specs.Below.Arguments.{IsNumberIfGiven, found_of, rows_of};
 ghost use Rattle.ih_commands.specs.Calls.Why.{AreCauses, HasFewToAsk, IsExplained, WhyCall, explanation, lawful_why};
 ghost use Rattle.ih_commands.specs.Calls.Why.{nothing_text, plan_text, says_nothing, why_app, why_call, why_in};
 ghost use Rattle.ih_commands.specs.Calls.Why.{why_inputs, why_text};
-ghost use Rattle.ih_commands.specs.Calls.Worded.{IsDescribed};
 
 use crate::command::bound::judged_status;
 use crate::command::calls::Worded;
-use crate::command::common::{DEFAULT_WORKERS, INSTANCE, WORKERS, said_names};
+use crate::command::common::{DEFAULT_WORKERS, INSTANCE, Made, WORKERS, arguments, said_names};
 use clap::ArgMatches;
-use ih_arguments::argument;
 use ih_arguments::arguments::{Argument, Description, Kind};
 use ih_arguments::explaining::NoCall;
 use ih_arguments::matches::{number_if_given, optional_text_of, text_of};
@@ -46,14 +42,10 @@ pub const WHY: Description<'static, 'static> = Description {
     name: "why",
     about: "Says why no plan can keep all rules, and who could still be admitted",
     called: "ih_planner why",
-    arguments: &[
-        INSTANCE,
-        argument!(
-            "SOLUTION",
-            Kind::OptionalNamed,
-            "The file of a solution: who waits, and what mends broken rules"
-        ),
-        WORKERS,
+    arguments: &arguments![
+        INSTANCE;
+        "SOLUTION" => Kind::OptionalNamed, "The file of a solution: who waits, and what mends broken rules";
+        WORKERS;
     ],
 };
 
@@ -73,20 +65,9 @@ fn why_in<'a>(matches: &ArgMatches<'a>) -> Why<'a>
 impl<'a> Worded<'a> for Why<'a> {
     ghost Call = { WhyCall };
 
-    ghost app = { why_app };
-
-    ghost call = { why_call };
-
-    ghost lawful = { lawful_why };
+    ghost wording = { record { app = why_app; call = why_call; lawful = lawful_why } };
 
     ghost holds = { HasFewToAsk };
-
-    #[tactic(auto, unfolding(crate::specs::Calls::Why::why_app, crate::proofs::Described::on_descriptions))]
-    fn description() -> Description<'static, 'static>
-        ensures { IsDescribed why_app result }
-    {
-        WHY
-    }
 
     fn of_matches(_alloc: Global, matches: &ArgMatches<'a>) -> Result<Why<'a>, NoCall> {
         Ok(why_in(matches))
@@ -184,12 +165,7 @@ impl<'w> ih_frame::Command for Why<'w> {
         said_names(self.instance, self.solution)
     }
 
-    fn outcome<'a, R: Threads + Wait + Sync>(
-        &'a self,
-        rt: &R,
-        alloc: Global,
-        inputs: Inputs,
-    ) -> Result<Outcome<'a>, AllocError> {
+    fn outcome<R: Threads + Wait + Sync>(&self, rt: &R, alloc: Global, inputs: Inputs) -> Made<'_> {
         let causes = causes(rt, alloc, &*inputs.inst, self.workers)?;
         let status = judged_status(says_nothing(causes.as_slice()));
         let text = explanation(alloc, self, &inputs, causes)?;

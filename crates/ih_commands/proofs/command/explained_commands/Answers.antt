@@ -1,6 +1,5 @@
 use Rattle.std.proofs.Common.{◌≡◌, ◌∙◌, ap, map, string_bytes, subst, sym, true}
-use Rattle.clap.specs.Words.{App, HasKind, app_of, fault_of, is_simple_and_free}
-use Rattle.ih_arguments.specs.Matches.{has_no_fault}
+use Rattle.ih_commands.specs.Below.Arguments.{App, HasKind, app_of, fault_of, has_no_fault, is_simple_and_free}
 use Rattle.ih_arguments.proofs.Faults.{no_fault_at}
 use Rattle.ih_arguments.proofs.WordsRead.{explained-as, refused-as}
 use Rattle.ih_commands.specs.Calls.{program_app}

@@ -1,12 +1,9 @@
 use Rattle.std.proofs.Common.{◌≡◌, ◌∙◌, ap, subst, sym, List, Option, Some, None, Result, Ok, Err, IfOk, IfErr, map, string_bytes}
 use Rattle.std.specs.Prelude.{◌≢◌}
 use Rattle.std.specs.Option.{option_copied}
-use Rattle.clap.specs.Words.{App, Text}
+use Rattle.ih_commands.specs.Below.Arguments.{App, IsExplained, IsRead, NoCall, OutOfMemory, Text}
 use Rattle.ih_arguments.proofs.FirstWords.{by_name, no_name}
-use Rattle.ih_arguments.specs.Explaining.{IsExplained, IsRead}
 use Rattle.ih_commands.specs.Calls.{Call, app_named, call_named, call_of, command_call}
-use Rattle.ih_arguments.specs.declared.explaining.NoCall.{NoCall}
-use Rattle.ih_arguments.specs.declared.explaining.NoCall.TheVariants.{OutOfMemory}
 use Rattle.ih_commands.proofs.FirstWord.{explained_by_all, explained_by_name}
 use Rattle.ih_commands.proofs.command.read_words.Goals as goal
 
@@ -23,27 +20,18 @@ answered : {A B : Type 0} (call : B → A) (asked : Option A) (app : App) (words
 answered call asked app words (Ok x) is = (is, tt, tt)
 answered call asked app words (Err e) is = (tt, is.0, is.1)
 
-pub returns-clause-ok : goal.returns-clause-ok
+pub returns : goal.returns
 unfolding call_of
-returns-clause-ok c =
-    let named = by_name call_named c.args.words.now (sym c.first.ensures.value ∙ ap option_copied c.in-Some.is) c.as_str.ensures.value in
+returns c =
+    let first = sym c.first.ensures.value ∙ ap option_copied c.in-Some.is in
+    let named = by_name call_named c.args.words.now first c.as_str.ensures.value in
     let app = app_named c.as_str.result.now in
     let words = map string_bytes c.args.words.now in
-    (answered command_call (call_of words) app words c.read_named.result
-    (subst (λ (o : Option Call). IsRead command_call o app words c.read_named.result) (sym named) c.read_named.ensures.read)).0
-
-pub returns-clause-none : goal.returns-clause-none
-unfolding call_of
-returns-clause-none c =
-    let named = by_name call_named c.args.words.now (sym c.first.ensures.value ∙ ap option_copied c.in-Some.is) c.as_str.ensures.value in
-    let app = app_named c.as_str.result.now in
-    let words = map string_bytes c.args.words.now in
-    (answered command_call (call_of words) app words c.read_named.result
-    (subst (λ (o : Option Call). IsRead command_call o app words c.read_named.result) (sym named) c.read_named.ensures.read)).1
-
-pub returns-clause-explained : goal.returns-clause-explained
-returns-clause-explained c =
-    let named = explained_by_name c.args.words.now (sym c.first.ensures.value ∙ ap option_copied c.in-Some.is) c.as_str.ensures.value in
-    rw named
-    (answered command_call (call_named c.as_str.result.now (map string_bytes c.args.words.now)) (app_named c.as_str.result.now)
-    (map string_bytes c.args.words.now) c.read_named.result c.read_named.ensures.read).2
+    let all = answered command_call (call_of words) app words c.read_named.result
+    (subst (λ (o : Option Call). IsRead command_call o app words c.read_named.result) (sym named) c.read_named.ensures.read) in
+    record {
+      ok = all.0;
+      lawful = c.read_named.ensures.lawful;
+      none = all.1;
+      explained = rw (explained_by_name c.args.words.now first c.as_str.ensures.value) all.2;
+    }

@@ -1,11 +1,7 @@
 use Rattle.std.proofs.Common.{◌≡◌, ◌∙◌, ap, sym, Bool, true, false, ℕ}
 use Rattle.std.specs.Prelude.{if◌then◌else◌}
-use Rattle.ih_tables.specs.declared.drafts.Draft.{Draft}
-use Rattle.ih_tables.specs.Bills.{feasible}
-use Rattle.ih_plan.specs.Timetable.{Timetable}
-use Rattle.ih_plan.specs.BillOf.{bill_of}
-use Rattle.ih_fill.specs.Fill.{fill}
-use Rattle.ih_improve.specs.Better.{is_better, of_bill}
+use Rattle.ih_commands.specs.Below.Wards.{Draft, Timetable, bill_of, feasible}
+use Rattle.ih_commands.specs.Below.Searches.{fill, is_better, of_bill}
 use Rattle.ih_commands.specs.Searching.{begun, cheaper_fill}
 use Rattle.ih_commands.proofs.improving.better_fill.Goals.{then-feasible+else-not-is_better, else-feasible}
 use Rattle.ih_commands.proofs.improving.better_fill.Goals as goal

@@ -1,11 +1,9 @@
 use Rattle.std.proofs.Common.{◌≡◌, ◌∙◌, ap, subst, Option, Some, None}
-use Rattle.std.specs.Prelude.{IfSome, map, unwrap_or}
+use Rattle.std.specs.Prelude.{map, unwrap_or}
 use Rattle.std.specs.Borrow.{Bor}
 use Rattle.std.specs.Option.{option_copied}
-use Rattle.ih_tables.specs.declared.drafts.Draft.{Draft}
-use Rattle.ih_plan.specs.Timetable.{Timetable}
-use Rattle.ih_improve.specs.Given.{AreSettingsOf}
-use Rattle.ih_improve.specs.Pinned.{pins_of}
+use Rattle.ih_commands.specs.Below.Wards.{Draft, Timetable}
+use Rattle.ih_commands.specs.Below.Searches.{AreSettingsOf, pins_of}
 use Rattle.ih_commands.specs.Calls.Improve.{improve_call}
 use Rattle.ih_commands.specs.Searching.{begun}
 use Rattle.ih_commands.proofs.SameSearches.{search-from}
@@ -15,10 +13,6 @@ use Rattle.ih_commands.proofs.improving.search_from.Goals as goal
 behind : (o : Option Timetable) (r : Option (Bor Timetable)) (d : Bor Timetable) → option_copied r ≡ o → (unwrap_or r d).now ≡ unwrap_or o d.now
 behind o None d is = ap (λ (x : Option Timetable). unwrap_or x d.now) is
 behind o (Some b) d is = ap (λ (x : Option Timetable). unwrap_or x d.now) is
-
-one-of : (P : Timetable → Type 0) (o : Option Timetable) (d : Timetable) → IfSome o P → P d → P (unwrap_or o d)
-one-of P None d some other = other
-one-of P (Some x) d some other = some
 
 pub returns-clause-search : goal.returns-clause-search
 returns-clause-search g c =

@@ -1,14 +1,10 @@
 use Rattle.std.proofs.Common.{inr, refl, subst, sym}
 use Rattle.std.specs.Prelude.{map, string_bytes}
-use Rattle.ih_endings.specs.Answers.{HasShelfCause}
-use Rattle.ih_endings.specs.Ends.{Received}
-use Rattle.ih_endings.specs.Texts.{ReceivedPart}
-use Rattle.ih_endings.specs.declared.answer.Answer.{Answer}
-use Rattle.ih_endings.specs.declared.status.Status.TheVariants.{Done, Usage}
+use Rattle.ih_commands.specs.Below.Arguments.{IsExplained}
+use Rattle.ih_commands.specs.Below.Endings.{Answer, Done, Usage}
 use Rattle.ih_endings.proofs.Files.{told-same}
 use Rattle.ih_endings.proofs.Saying.{ended}
 use Rattle.ih_commands.specs.Ends.{Leaves, NoCallEnds}
-use Rattle.ih_arguments.specs.Explaining.{IsExplained}
 use Rattle.ih_commands.specs.Calls.{app_for, call_of, command_call}
 use Rattle.ih_commands.proofs.Calls.{complete, memory-complete, memory-leaves, no_call-answerable, one-few, untouched}
 use Rattle.ih_commands.proofs.running.run_planner.Goals as goal
@@ -21,34 +17,17 @@ returns-in-Ok-clause-untouched g c = rw c.in-Ok.ensures.ok tt
 
 pub returns-in-Ok-clause-complete : goal.returns-in-Ok-clause-complete
 returns-in-Ok-clause-complete g c =
-    let old = c.args.shelf.now in
-    let new = c.perform.new.shelf in
-    let before = g.O.Sink.text c.args.out.now in
-    let after = g.O.Sink.text c.perform.new.out in
-    let result = c.perform.result in
     rw c.in-Ok.ensures.ok
-    (complete (map string_bytes c.args.words.now) (command_call c.in-Ok.command) (g.S.Shelf.names old) (g.S.Shelf.names new) (HasShelfCause g.S.Shelf old new)
-    (Received result before after (g.O.Sink.faults c.args.out.now) (g.O.Sink.faults c.perform.new.out))
-    (ReceivedPart before after (g.O.Sink.lacks c.args.out.now) (g.O.Sink.lacks c.perform.new.out)) _ _ _ _ _ _ result c.perform.ensures.ends
-    c.perform.ensures.cause)
+    (complete (map string_bytes c.args.words.now) (command_call c.in-Ok.command) _ _ _ _ _ _ _ _ _ _ _ c.perform.result c.perform.ensures.ends c.perform.ensures.cause)
 
 pub returns-in-Err-Help-clause-leaves : goal.returns-in-Err-Help-clause-leaves
 returns-in-Err-Help-clause-leaves g c =
-    let shelf = c.args.shelf.now in
-    let files = g.S.Shelf.names shelf in
-    let before = g.O.Sink.text c.args.out.now in
-    let after = g.O.Sink.text c.conclude.new.out in
-    let result = c.conclude.result in
     let words = map string_bytes c.args.words.now in
     let e = c.in-Err-Help in
     let asked = subst (IsExplained (app_for words) words) e.field-0-is e.ensures.explained in
     let a : Answer = record { status = Done; text = c.into_bytes.result } in
-    rw (c.in-Err-Help.ensures.none (λ e. let is = c.in-Err-Help.field-0-is in cc)) (
-      told-same files files refl,
-      ended (NoCallEnds words) (no_call-answerable words) (HasShelfCause g.S.Shelf shelf shelf)
-          (Received result before after (g.O.Sink.faults c.args.out.now) (g.O.Sink.faults c.conclude.new.out))
-          (ReceivedPart before after (g.O.Sink.lacks c.args.out.now) (g.O.Sink.lacks c.conclude.new.out)) a result (inr asked) tt c.conclude.ensures.said,
-    )
+    rw (e.ensures.none (λ e. let is = c.in-Err-Help.field-0-is in cc))
+    (told-same _ _ refl, ended (NoCallEnds words) (no_call-answerable words) _ _ _ a c.conclude.result (inr asked) tt c.conclude.ensures.said)
 
 pub returns-in-Err-Help-clause-untouched : goal.returns-in-Err-Help-clause-untouched
 returns-in-Err-Help-clause-untouched g c = untouched (call_of (map string_bytes c.args.words.now)) c.args.shelf.now
@@ -58,22 +37,13 @@ returns-in-Err-Help-clause-complete g c = rw (c.in-Err-Help.ensures.none (λ e. 
 
 pub returns-in-Err-Refused-clause-leaves : goal.returns-in-Err-Refused-clause-leaves
 returns-in-Err-Refused-clause-leaves g c =
-    let shelf = c.args.shelf.now in
-    let files = g.S.Shelf.names shelf in
-    let before = g.O.Sink.text c.args.out.now in
-    let after = g.O.Sink.text c.conclude-in-Err-Refused.new.out in
-    let result = c.conclude-in-Err-Refused.result in
     let words = map string_bytes c.args.words.now in
     let e = c.in-Err-Refused in
+    let put = c.conclude-in-Err-Refused in
     let asked = subst (IsExplained (app_for words) words) e.field-0-is e.ensures.explained in
     let a : Answer = record { status = Usage; text = c.into_bytes-in-Err-Refused.result } in
-    rw (c.in-Err-Refused.ensures.none (λ e. let is = c.in-Err-Refused.field-0-is in cc)) (
-      told-same files files refl,
-      ended (NoCallEnds words) (no_call-answerable words) (HasShelfCause g.S.Shelf shelf shelf)
-          (Received result before after (g.O.Sink.faults c.args.out.now) (g.O.Sink.faults c.conclude-in-Err-Refused.new.out))
-          (ReceivedPart before after (g.O.Sink.lacks c.args.out.now) (g.O.Sink.lacks c.conclude-in-Err-Refused.new.out)) a result (inr asked) tt
-          c.conclude-in-Err-Refused.ensures.said,
-    )
+    rw (e.ensures.none (λ e. let is = c.in-Err-Refused.field-0-is in cc))
+    (told-same _ _ refl, ended (NoCallEnds words) (no_call-answerable words) _ _ _ a put.result (inr asked) tt put.ensures.said)
 
 pub returns-in-Err-Refused-clause-untouched : goal.returns-in-Err-Refused-clause-untouched
 returns-in-Err-Refused-clause-untouched g c = untouched (call_of (map string_bytes c.args.words.now)) c.args.shelf.now
@@ -83,16 +53,9 @@ returns-in-Err-Refused-clause-complete g c = rw (c.in-Err-Refused.ensures.none (
 
 pub returns-clause-leaves : goal.returns-clause-leaves
 returns-clause-leaves g c =
-    let shelf = c.args.shelf.now in
-    let files = g.S.Shelf.names shelf in
-    let why = HasShelfCause g.S.Shelf shelf shelf in
-    let before = g.O.Sink.text c.args.out.now in
-    let after = g.O.Sink.text c.conclude_memory.new.out in
-    let received = Received c.conclude_memory.result before after (g.O.Sink.faults c.args.out.now) (g.O.Sink.faults c.conclude_memory.new.out) in
-    let part = ReceivedPart before after (g.O.Sink.lacks c.args.out.now) (g.O.Sink.lacks c.conclude_memory.new.out) in
     let words = map string_bytes c.args.words.now in
-    subst (Leaves words (call_of words) files files why received part) (sym c.conclude_memory.ensures.status)
-    (memory-leaves words (call_of words) files why received part tt c.conclude_memory.ensures.said)
+    subst (Leaves words (call_of words) _ _ _ _ _) (sym c.conclude_memory.ensures.status)
+    (memory-leaves words (call_of words) _ _ _ _ tt c.conclude_memory.ensures.said)
 
 pub returns-clause-untouched : goal.returns-clause-untouched
 returns-clause-untouched g c = untouched (call_of (map string_bytes c.args.words.now)) c.args.shelf.now

@@ -1,10 +1,7 @@
 use Rattle.std.proofs.Common.{◌≡◌, subst}
-use Rattle.ih_endings.specs.Answers.{HasShelfCause}
+use Rattle.ih_top.specs.Below.Arguments.{OutDiffers, command_call, gen_call, replay_call, solve_call}
+use Rattle.ih_top.specs.Below.Endings.{HasShelfCause}
 use Rattle.ih_endings.proofs.Saying.{has-cause}
-use Rattle.ih_words.specs.Generate.{gen_call}
-use Rattle.ih_words.specs.Replay.{replay_call}
-use Rattle.ih_words.specs.Solve.{solve_call}
-use Rattle.ih_words.specs.Words.{OutDiffers, command_call}
 use Rattle.ih_words.specs.declared.command.Command.{Command}
 use Rattle.ih_top.specs.declared.journals.JournalUse.TheVariants.{Replay, Salvage}
 use Rattle.ih_top.specs.declared.searching.Method.TheVariants.{Moves, Chains, Rounds}

@@ -2,24 +2,13 @@ use Rattle.std.proofs.Common.{◌≡◌, ◌∙◌, ℕ, suc, refl, sym, subst, 
 use Rattle.std.proofs.lemmas.List.{length-map}
 use Rattle.std.specs.Prelude.{Bool, cond, Ok}
 use Rattle.std.proofs.lemmas.List.Sums.{sum_by-cons}
-use Rattle.ih_tables.specs.declared.drafts.Draft.{Draft}
-use Rattle.ih_instance.specs.Instance.{instance}
+use Rattle.ih_top.specs.Below.Wards.{Draft, Timetable, empty, instance}
+use Rattle.ih_top.specs.Below.Searches.{AreExact, AreLegal, Base, BestIs, Entry, IsFull, Options, Tried, base_with, fill, is_stale, tried, tries}
 use Rattle.ih_gen.specs.Generated.{generated}
-use Rattle.ih_fill.specs.Fill.{fill}
-use Rattle.ih_plan.specs.Timetable.{Timetable, empty}
-use Rattle.ih_journal.specs.declared.entries.Entry.{Entry}
-use Rattle.ih_journal.specs.declared.settings.Options.{Options}
-use Rattle.ih_journal.specs.Attempts.{is_stale}
-use Rattle.ih_journal.specs.Base.{Base}
-use Rattle.ih_journal.specs.Tried.{Tried, tried, tries}
 use Rattle.ih_journal.specs.Laws.{HasNoneStale}
-use Rattle.ih_journal.specs.Legal.{IsFull, AreLegal}
 use Rattle.ih_journal.proofs.LoneWorkers.{lone-fresh, lone-moves}
-use Rattle.ih_cellbook.specs.Keeping.{base_with}
-use Rattle.ih_cellbook.specs.Legal.{AreExact}
 use Rattle.ih_top.specs.Demo.{IsDemo, IsDemoBase, demo_options}
 use Rattle.ih_top.specs.Texts.{counts_line, demo_line, demo_text, done_text, verdicts_of}
-use Rattle.ih_journal.specs.Best.{BestIs}
 use Rattle.ih_top.specs.Outputs.{HasBestOutput}
 use Rattle.ih_top.proofs.demo.search_from_fill.Goals as goal
 

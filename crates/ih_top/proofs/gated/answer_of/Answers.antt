@@ -1,8 +1,5 @@
 use Rattle.std.proofs.Common.{subst}
-use Rattle.ih_inputs.specs.Reading.{HasGiven, InputFiles, given_of}
-use Rattle.ih_endings.specs.Answers.{Answers}
-use Rattle.ih_endings.specs.Inputs.{EndsUnread}
-use Rattle.ih_frame.specs.Ends.{MadeEnds}
+use Rattle.ih_top.specs.Below.Endings.{Answers, EndsUnread, HasGiven, InputFiles, MadeEnds, given_of}
 use Rattle.ih_frame.proofs.CommandEnds.{performed-ends, unread-ends}
 use Rattle.ih_top.specs.Methods.{comes_to, gated_inputs}
 use Rattle.ih_top.proofs.gated.answer_of.Goals as goal

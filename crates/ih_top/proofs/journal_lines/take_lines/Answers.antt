@@ -1,6 +1,5 @@
 use Rattle.std.proofs.Common.{refl, subst, sym}
-use Rattle.ih_journal.specs.Legal.{AreLegal}
-use Rattle.ih_journal.specs.Tried.{tried, tries}
+use Rattle.ih_top.specs.Below.Searches.{AreLegal, tried, tries}
 use Rattle.ih_journal.proofs.Mapped.{map-more}
 use Rattle.ih_journal.proofs.Growth.{legal-more}
 use Rattle.ih_top.proofs.Taken.{begins-refused, begins-unended, joins-more, joins-none, legal-nothing, refused-end, refused-line}

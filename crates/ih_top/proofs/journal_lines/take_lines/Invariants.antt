@@ -1,7 +1,5 @@
 use Rattle.std.proofs.Common.{◌≡◌, ◌++◌, length}
-use Rattle.ih_journal.specs.Legal.{AreLegal}
-use Rattle.ih_journal.specs.Tried.{tries}
-use Rattle.ih_journal.specs.Texts.{lines_from}
+use Rattle.ih_top.specs.Below.Searches.{AreLegal, lines_from, tries}
 use Rattle.ih_top.proofs.journal_lines.take_lines.Given as goal
 
 abbrev pub invariant-loop-line : goal.invariant-loop-line

@@ -1,7 +1,7 @@
 use Rattle.std.proofs.Common.{refl, subst, sym}
 use Rattle.std.specs.Prelude.{IfNone}
-use Rattle.ih_journal.specs.Base.{Base}
-use Rattle.ih_arguments.specs.Start.{start_call}
+use Rattle.ih_top.specs.Below.Arguments.{start_call}
+use Rattle.ih_top.specs.Below.Searches.{Base}
 use Rattle.ih_top.specs.JournalFiles.{read_from, HasNoHeading, IsHeadedBy, no_heading}
 use Rattle.ih_top.specs.JournalUses.{IsOutcomeFor}
 use Rattle.ih_top.proofs.JournalOutcomes.{headless-for, result-for}

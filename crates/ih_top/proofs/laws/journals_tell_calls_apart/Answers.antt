@@ -1,21 +1,11 @@
 use Rattle.std.proofs.Common.{◌≡◌, ◌∙◌, ℕ, ap, arith, sym, List, length, Some}
 use Rattle.std.specs.Prelude.{Ok}
 use Rattle.std.proofs.lemmas.List.{length-map}
-use Rattle.ih_tables.specs.declared.drafts.Draft.{Draft}
-use Rattle.ih_journal.specs.declared.settings.Options.{Options}
-use Rattle.ih_journal.specs.Base.{Base}
-use Rattle.ih_journal.specs.Texts.{journal}
-use Rattle.ih_cellbook.specs.Laws.{IsSearchBase, JournalsTellSearchesApart}
-use Rattle.ih_chain.specs.Laws.{ChainJournalsTellSearchesApart}
-use Rattle.ih_chain.specs.Texts.{chain_journal}
-use Rattle.ih_instance.specs.Instance.{instance}
+use Rattle.ih_top.specs.Below.Wards.{Draft, instance}
+use Rattle.ih_top.specs.Below.Arguments.{NamedCallsAreWithinLimits, SolveCall, chain, rounds}
+use Rattle.ih_top.specs.Below.Endings.{HasInstance, Names, bytes_at}
+use Rattle.ih_top.specs.Below.Searches.{Base, ChainJournalsTellSearchesApart, IsSearchBase, JournalsTellRoundsApart, JournalsTellSearchesApart, Options, Round, chain_journal, histories, journal, journals}
 use Rattle.ih_instance.proofs.DraftSound.{instance_sound}
-use Rattle.ih_rounds.specs.Laws.{JournalsTellRoundsApart}
-use Rattle.ih_rounds.specs.Rounds.{Round, histories, journals}
-use Rattle.ih_words.specs.Solve.{SolveCall}
-use Rattle.ih_words.specs.Words.{NamedCallsAreWithinLimits, chain, rounds}
-use Rattle.ih_shelf.specs.Outside.{Names, bytes_at}
-use Rattle.ih_inputs.specs.Reading.{HasInstance}
 use Rattle.ih_top.specs.Laws.{ChainsAreToldApart, RoundsAreToldApart, SolvesAreToldApart}
 use Rattle.ih_top.specs.Searches.{IsSearch, SearchForm}
 use Rattle.ih_top.proofs.laws.journals_tell_calls_apart.Goals as goal

@@ -1,6 +1,5 @@
+use Rattle.ih_top.specs.Below.Searches.{base_given, tries}
 use Rattle.ih_cellbook.proofs.LegalEntries.{moves-in}
-use Rattle.ih_journal.specs.Tried.{tries}
-use Rattle.ih_desk.specs.Searching.{base_given}
 use Rattle.ih_top.proofs.output.best_output.Goals as goal
 
 pub plan_at-requires-clause-moves : goal.plan_at-requires-clause-moves

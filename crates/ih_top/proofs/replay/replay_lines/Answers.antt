@@ -1,11 +1,6 @@
 use Rattle.std.proofs.Common.{◌≡◌, ◌∙◌, subst, ap, List}
-use Rattle.ih_journal.specs.declared.entries.Entry.{Entry}
-use Rattle.ih_journal.specs.Base.{Base}
-use Rattle.ih_journal.specs.Tried.{tries}
-use Rattle.ih_journal.specs.Legal.{AreLegal}
-use Rattle.ih_replay.specs.ReplayState.{ReplayState}
+use Rattle.ih_top.specs.Below.Searches.{AreLegal, Base, Entry, ReplayState, base_given, tries}
 use Rattle.ih_top.specs.Outputs.{HasBestOutput}
-use Rattle.ih_desk.specs.Searching.{base_given}
 use Rattle.ih_top.proofs.Taken.{full-lines, refused-lines}
 use Rattle.ih_top.proofs.replay.replay_lines.Goals as goal
 

@@ -1,6 +1,5 @@
 use Rattle.std.proofs.Common.{refl, None}
-use Rattle.ih_journal.specs.Base.{Base}
-use Rattle.ih_cellbook.specs.Keeping.{base_with}
+use Rattle.ih_top.specs.Below.Searches.{Base, base_with}
 use Rattle.ih_top.proofs.FormOutputs.{fits-end, output-of, output-unfrozen}
 use Rattle.ih_top.proofs.rounds_output.make_rounds_output.Goals as goal
 

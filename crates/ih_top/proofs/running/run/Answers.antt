@@ -1,6 +1,6 @@
 use Rattle.std.proofs.Common.{refl, subst, sym}
 use Rattle.std.specs.Prelude.{map, string_bytes}
-use Rattle.ih_words.specs.Words.{call_of, command_call}
+use Rattle.ih_top.specs.Below.Arguments.{call_of, command_call}
 use Rattle.ih_words.proofs.CallNames.{names-apart}
 use Rattle.ih_endings.proofs.Files.{told-same}
 use Rattle.ih_top.specs.Ends.{Leaves}

@@ -1,12 +1,7 @@
 use Rattle.std.proofs.Common.{◌≡◌, ◌∙◌, subst, sym, ap, Some, None, length, List}
 use Rattle.std.proofs.lemmas.List.{length-map}
-use Rattle.ih_journal.specs.declared.entries.Entry.{Entry}
-use Rattle.ih_journal.specs.Base.{Base}
-use Rattle.ih_journal.specs.Tried.{tried, tries}
-use Rattle.ih_journal.specs.Legal.{AreLegal}
-use Rattle.ih_replay.specs.ReplayState.{ReplayState}
+use Rattle.ih_top.specs.Below.Searches.{AreLegal, Base, Entry, ReplayState, base_given, tried, tries}
 use Rattle.ih_top.specs.Outputs.{HasBestOutput}
-use Rattle.ih_desk.specs.Searching.{base_given}
 use Rattle.ih_top.proofs.Taken.{salvaged-best, salvaged-lines}
 use Rattle.ih_top.proofs.salvage.salvage_lines.Goals as goal
 

@@ -1,6 +1,6 @@
 use Rattle.std.proofs.Common.{subst, sym}
 use Rattle.std.specs.Prelude.{IfOk}
-use Rattle.ih_desk.specs.Searching.{base_given}
+use Rattle.ih_top.specs.Below.Searches.{base_given}
 use Rattle.ih_top.specs.declared.searching.Method.{Method}
 use Rattle.ih_top.specs.declared.searching.Method.TheVariants.{Chains}
 use Rattle.ih_top.specs.Methods.{IsLawfulFor, IsMade}

@@ -1,7 +1,7 @@
 use Rattle.std.proofs.Common.{◌≡◌}
 use Rattle.std.proofs.lemmas.Result.{IfOk-weaker}
-use Rattle.ih_frame.specs.Outcomes.{outcome_of}
-use Rattle.ih_words.specs.Solve.{SolveCall, solve_call}
+use Rattle.ih_top.specs.Below.Arguments.{SolveCall, solve_call}
+use Rattle.ih_top.specs.Below.Endings.{outcome_of}
 use Rattle.ih_top.specs.Outputs.{search_outcome}
 use Rattle.ih_top.proofs.searching.searched.Goals as goal
 

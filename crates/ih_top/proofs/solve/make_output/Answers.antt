@@ -1,9 +1,5 @@
 use Rattle.std.proofs.Common.{◌≡◌, subst, sym}
-use Rattle.ih_journal.specs.Base.{Base}
-use Rattle.ih_journal.specs.Best.{BestIs}
-use Rattle.ih_journal.specs.Legal.{AreLegal, IsFull}
-use Rattle.ih_journal.specs.Tried.{tries}
-use Rattle.ih_desk.specs.Searching.{base_given}
+use Rattle.ih_top.specs.Below.Searches.{AreLegal, Base, BestIs, IsFull, base_given, tries}
 use Rattle.ih_cellbook.proofs.LegalEntries.{prices-in}
 use Rattle.ih_top.specs.Histories.{IsSound}
 use Rattle.ih_top.proofs.solve.make_output.Goals as goal

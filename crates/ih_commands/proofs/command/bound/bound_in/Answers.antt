@@ -1,4 +1,4 @@
-use Rattle.clap.specs.Words.{found_of, rows_of}
+use Rattle.ih_commands.specs.Below.Arguments.{found_of, rows_of}
 use Rattle.ih_commands.proofs.SettingsRead.{workers-within}
 use Rattle.ih_commands.proofs.command.bound.bound_in.Goals as goal
 

@@ -1,10 +1,7 @@
 use Rattle.std.proofs.Common.{◌≡◌, ◌∙◌, ◌++◌, ap, ap₂, subst, Option}
-use Rattle.ih_tables.specs.declared.drafts.Draft.{Draft}
-use Rattle.ih_bound.specs.Bounds.{HoldsOfAll}
-use Rattle.ih_frame.specs.Outcomes.{says}
-use Rattle.ih_bound.specs.Judging.{no_infeasibility}
-use Rattle.ih_bound.specs.Texts.{bound_text}
-use Rattle.ih_bound.specs.declared.judging.Judged.{Judged}
+use Rattle.ih_commands.specs.Below.Wards.{Draft}
+use Rattle.ih_commands.specs.Below.Endings.{says}
+use Rattle.ih_commands.specs.Below.Searches.{HoldsOfAll, Judged, bound_text, no_infeasibility}
 use Rattle.ih_bound.proofs.HowFar.{gap-true}
 use Rattle.ih_commands.specs.Calls.Bound.{IsToldOf, bound_call, judged_status}
 use Rattle.ih_commands.proofs.command.bound.BoundCommand.outcome.Goals as goal

@@ -1,6 +1,6 @@
 use Rattle.std.proofs.Common.{codes, refl}
-use Rattle.ih_plan.specs.declared.limits.TheConstants.{MAX_WORKERS}
-use Rattle.ih_arguments.specs.Arguments.{optional_between}
+use Rattle.ih_commands.specs.Below.Wards.{MAX_WORKERS}
+use Rattle.ih_commands.specs.Below.Arguments.{optional_between}
 use Rattle.ih_arguments.proofs.DescriptionRules.{takes_between}
 use Rattle.ih_commands.specs.Calls.Bound.{bound_app}
 use Rattle.ih_commands.specs.declared.command.bound.TheConstants.{MAX_BOUND_ROUNDS}

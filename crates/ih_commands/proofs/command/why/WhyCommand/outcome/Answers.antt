@@ -1,6 +1,6 @@
 use Rattle.std.proofs.Common.{◌≡◌, ◌∙◌, ap, ap₂, subst, ℕ, List}
-use Rattle.ih_tables.specs.declared.drafts.Draft.{Draft}
-use Rattle.ih_frame.specs.Outcomes.{says}
+use Rattle.ih_commands.specs.Below.Wards.{Draft}
+use Rattle.ih_commands.specs.Below.Endings.{says}
 use Rattle.ih_commands.specs.Calls.Bound.{judged_status}
 use Rattle.ih_commands.specs.Calls.Why.{AreCauses, says_nothing}
 use Rattle.ih_commands.proofs.command.why.WhyCommand.outcome.Goals as goal
