@@ -11,7 +11,7 @@ use Rattle.ih_plan.specs.Costs.{surgeon_maximum, theatre_availability}
 use Rattle.ih_plan.proofs.SumLemmas.{sum_below-same, sum_below-but}
 use Rattle.ih_bound.specs.declared.prices.Rates.{Rates}
 use Rattle.ih_bound.specs.declared.scarcity.Thing.TheVariants.{Beds, OfSurgeon, OfTheatre}
-use Rattle.ih_bound.specs.Tariffs.{Tariff, all_beds, income}
+use Rattle.ih_bound.specs.Tariffs.{Tariff, all_beds, all_shares, income}
 use Rattle.ih_bound.specs.Hints.{income_of, supply_of, relief}
 
 pub income-whole : (I : Draft) (rates : Rates) (t : Tariff) → income_of I rates t (supply_of I) ≡ income I rates t
@@ -56,13 +56,13 @@ module _ (I : Draft) (rates : Rates) (t : Tariff) where
 
   pub relief-theatre : (n : TheatreNo) (day : ℕ) → n.0 < theatre_count I → day < I.days
       → relief I rates t (OfTheatre n) day
-      ≡ t.theatre n.0 day * (theatre_availability I n.0 day + 60) - rates.theatre
-      - (t.theatre n.0 day * theatre_availability I n.0 day - rates.theatre)
+      ≡ t.theatre n.0 day * (theatre_availability I n.0 day + 60) + all_shares I t n.0 day - rates.theatre
+      - (t.theatre n.0 day * theatre_availability I n.0 day + all_shares I t n.0 day - rates.theatre)
   unfolding income_of
   relief-theatre n day hn h =
-      let f : ℕ → ℕ → ℕ = λ i d. t.theatre i d * (theatre_availability I i d + (if (i == n.0) && (d == day) then 60 else 0)) - rates.theatre in
-      let g : ℕ → ℕ → ℕ = λ i d. t.theatre i d * theatre_availability I i d - rates.theatre in
-      let here : f n.0 day ≡ t.theatre n.0 day * (theatre_availability I n.0 day + 60) - rates.theatre = rw (eq-eqb n.0 n.0 refl, eq-eqb day day refl) refl in
+      let f : ℕ → ℕ → ℕ = λ i d. t.theatre i d * (theatre_availability I i d + (if (i == n.0) && (d == day) then 60 else 0)) + all_shares I t i d - rates.theatre in
+      let g : ℕ → ℕ → ℕ = λ i d. t.theatre i d * theatre_availability I i d + all_shares I t i d - rates.theatre in
+      let here : f n.0 day ≡ t.theatre n.0 day * (theatre_availability I n.0 day + 60) + all_shares I t n.0 day - rates.theatre = rw (eq-eqb n.0 n.0 refl, eq-eqb day day refl) refl in
       let grown = rows-grown (theatre_count I) I.days n.0 day f g hn h (omega (arith, here))
       (λ b ne. rw (and_right (n.0 == n.0) (b == day) (ne_eqb b day ne)) (omega arith))
       (λ a b ne. rw (and_left (a == n.0) (b == day) (ne_eqb a n.0 ne)) (omega arith)) in

@@ -19,7 +19,7 @@ use Rattle.ih_plan.proofs.SumBounds.{sum_below-add, sum_below-le_each, sum_below
 use Rattle.ih_validate.proofs.LoadLemmas.{admission-room}
 use Rattle.ih_bound.specs.declared.prices.Rates.{Rates}
 use Rattle.ih_bound.specs.Bounds.{IsFeasible}
-use Rattle.ih_bound.specs.Tariffs.{Tariff, all_beds, bed_income, surgeon_income, theatre_income, work_income, load_limit}
+use Rattle.ih_bound.specs.Tariffs.{Tariff, all_beds, all_shares, bed_income, surgeon_income, theatre_income, work_income, load_limit}
 use Rattle.ih_bound.specs.Paid.{is_there, bed_paid}
 use Rattle.ih_bound.proofs.SumLaws.{sum_below-one, sum_below-times, sum_below-turn}
 use Rattle.ih_bound.proofs.RulesKept.{surgeon-fits, theatre-fits, room-fits, on-duty}
@@ -27,6 +27,10 @@ use Rattle.ih_bound.proofs.RulesKept.{surgeon-fits, theatre-fits, room-fits, on-
 times-bit : (b : Bool) (c : ℕ) → (if b then c else 0) ≡ c * bit b
 times-bit true c = omega arith
 times-bit false c = omega arith
+
+if-fits : (b : Bool) (c : ℕ) → (if b then c else 0) ≤ c
+if-fits true c = omega arith
+if-fits false c = omega arith
 
 -- who is there is in one room
 one_room : (I : Draft) (o : Option Admission) (n d : ℕ) → ((a : Admission) → o ≡ Some a → a.room < room_count I)
@@ -78,7 +82,8 @@ module _ (I : Draft) (P : Timetable) (valid : IsValid I) (feasible : IsFeasible 
   surgeon_part t s d p = t.surgeon s d * (if is_number (surgeon_of I p) s && admitted_on d (stay_of P p) then duration_of I p else 0)
 
   abbrev pub theatre_part : Tariff → ℕ → ℕ → ℕ → ℕ
-  theatre_part t i d p = t.theatre i d * (if operated_in i d (stay_of P p) then duration_of I p else 0)
+  theatre_part t i d p =
+      t.theatre i d * (if operated_in i d (stay_of P p) then duration_of I p else 0) + (if operated_in i d (stay_of P p) then t.share p i d else 0)
 
   surgeon-minutes : (t : Tariff) (s d : ℕ) → t.surgeon s d * minutes I (operated_by I P s d) ≡ sum_below (patient_count I) (surgeon_part t s d)
   unfolding operated_by
@@ -86,11 +91,27 @@ module _ (I : Draft) (P : Timetable) (valid : IsValid I) (feasible : IsFeasible 
       ap (λ m. t.surgeon s d * m) (sum_by-which_below (duration_of I) (patient_count I) (λ p. is_number (surgeon_of I p) s && admitted_on d (stay_of P p)))
       ∙ sym (sum_below-times (patient_count I) (t.surgeon s d) (λ p. if is_number (surgeon_of I p) s && admitted_on d (stay_of P p) then duration_of I p else 0))
 
-  theatre-minutes : (t : Tariff) (i d : ℕ) → t.theatre i d * minutes I (operated I P i d) ≡ sum_below (patient_count I) (theatre_part t i d)
+  -- in a theatre patients pay for its minutes, and their shares
+  theatre-parts : (t : Tariff) (i d : ℕ) → sum_below (patient_count I) (theatre_part t i d)
+      ≡ t.theatre i d * minutes I (operated I P i d) + sum_by (λ p. t.share p i d) (operated I P i d)
   unfolding operated
-  theatre-minutes t i d =
-      ap (λ m. t.theatre i d * m) (sum_by-which_below (duration_of I) (patient_count I) (λ p. operated_in i d (stay_of P p)))
-      ∙ sym (sum_below-times (patient_count I) (t.theatre i d) (λ p. if operated_in i d (stay_of P p) then duration_of I p else 0))
+  theatre-parts t i d =
+      let N = patient_count I in
+      let long : ℕ → ℕ = λ p. if operated_in i d (stay_of P p) then duration_of I p else 0 in
+      let shared : ℕ → ℕ = λ p. if operated_in i d (stay_of P p) then t.share p i d else 0 in
+      let times = sum_below-times N (t.theatre i d) long in
+      let all = ap (λ m. t.theatre i d * m) (sum_by-which_below (duration_of I) N (λ p. operated_in i d (stay_of P p))) in
+      let shares = sum_by-which_below (λ p. t.share p i d) N (λ p. operated_in i d (stay_of P p)) in
+      omega (arith, sum_below-add N (λ p. t.theatre i d * long p) shared, times, all, shares)
+
+  -- their shares are among those of all patients
+  shares-fit : (t : Tariff) (i d : ℕ) → sum_by (λ p. t.share p i d) (operated I P i d) ≤ all_shares I t i d
+  unfolding operated
+  shares-fit t i d =
+      let N = patient_count I in
+      let shares = sum_by-which_below (λ p. t.share p i d) N (λ p. operated_in i d (stay_of P p)) in
+      let each = sum_below-le_each N (λ p. if operated_in i d (stay_of P p) then t.share p i d else 0) (λ p. t.share p i d) (λ p l. if-fits (operated_in i d (stay_of P p)) (t.share p i d)) in
+      omega (arith, shares, each)
 
   -- what all patients pay for surgeons
   pub surgeons-paid : (t : Tariff) → sum_below (patient_count I) (λ p. sum_below I.days (λ d. sum_below (surgeon_count I) (λ s. surgeon_part t s d p))) ≤ surgeon_income I t
@@ -104,30 +125,33 @@ module _ (I : Draft) (P : Timetable) (valid : IsValid I) (feasible : IsFeasible 
       omega (arith, turn, each)
 
   one-opening : (rates : Rates) (t : Tariff) (i d : ℕ) → i < theatre_count I → d < I.days
-      → t.theatre i d * minutes I (operated I P i d) ≤ rates.theatre * bit (not (is_empty (operated I P i d))) + (t.theatre i d * theatre_availability I i d - rates.theatre)
+      → t.theatre i d * minutes I (operated I P i d) + sum_by (λ p. t.share p i d) (operated I P i d)
+      ≤ rates.theatre * bit (not (is_empty (operated I P i d))) + (t.theatre i d * theatre_availability I i d + all_shares I t i d - rates.theatre)
   one-opening rates t i d hi hd =
       let fit = mul-le (t.theatre i d) (minutes I (operated I P i d)) (t.theatre i d) (theatre_availability I i d) (omega arith) (theatre-fits I P feasible i d hi hd) in
-      by_case (operated I P i d) fit
+      by_case (operated I P i d) fit (shares-fit t i d)
     where
       by_case : (ps : List ℕ) → t.theatre i d * minutes I ps ≤ t.theatre i d * theatre_availability I i d
-          → t.theatre i d * minutes I ps ≤ rates.theatre * bit (not (is_empty ps)) + (t.theatre i d * theatre_availability I i d - rates.theatre)
-      by_case [] fit = omega arith
-      by_case (p ∷ ps) fit = omega (arith, fit)
+          → sum_by (λ p. t.share p i d) ps ≤ all_shares I t i d
+          → t.theatre i d * minutes I ps + sum_by (λ p. t.share p i d) ps
+          ≤ rates.theatre * bit (not (is_empty ps)) + (t.theatre i d * theatre_availability I i d + all_shares I t i d - rates.theatre)
+      by_case [] fit shares = omega arith
+      by_case (p ∷ ps) fit shares = omega (arith, fit, shares)
 
-  -- what all patients pay for theatres: what open theatres are worth, and no more than minutes above that
+  -- what all patients pay for theatres: what open theatres are worth, and no more than minutes and shares above that
   pub theatres-paid : (rates : Rates) (t : Tariff) → sum_below (patient_count I) (λ p. sum_below I.days (λ d. sum_below (theatre_count I) (λ i. theatre_part t i d p)))
       ≤ rates.theatre * open_theatres I P + theatre_income I rates t
   unfolding open_theatres
   theatres-paid rates t =
       let T = theatre_count I in
       let open_on : ℕ → ℕ → ℕ = λ i d. bit (not (is_empty (operated I P i d))) in
-      let above : ℕ → ℕ → ℕ = λ i d. t.theatre i d * theatre_availability I i d - rates.theatre in
+      let above : ℕ → ℕ → ℕ = λ i d. t.theatre i d * theatre_availability I i d + all_shares I t i d - rates.theatre in
       let turn = sum_below-turn T I.days (patient_count I) (theatre_part t) in
       let each = sum_below-le_each T (λ i. sum_below I.days (λ d. sum_below (patient_count I) (theatre_part t i d)))
       (λ i. rates.theatre * sum_below I.days (open_on i) + sum_below I.days (above i))
       (λ i hi.
       let days = sum_below-le_each I.days (λ d. sum_below (patient_count I) (theatre_part t i d)) (λ d. rates.theatre * open_on i d + above i d)
-      (λ d hd. omega (arith, theatre-minutes t i d, one-opening rates t i d hi hd)) in
+      (λ d hd. omega (arith, theatre-parts t i d, one-opening rates t i d hi hd)) in
       let both = sum_below-add I.days (λ d. rates.theatre * open_on i d) (above i) in
       let times = sum_below-times I.days rates.theatre (open_on i) in
       omega (arith, days, both, times)) in

@@ -15,7 +15,7 @@ use Rattle.ih_plan.specs.Costs.{admitted_on, after_due, theatre_availability, su
 use Rattle.ih_bound.specs.declared.prices.Rates.{Rates}
 use Rattle.ih_bound.specs.Bounds.{IsFeasible}
 use Rattle.ih_bound.specs.Tariffs.{Tariff}
-use Rattle.ih_bound.specs.Paid.{stay_paid, care_paid, bed_paid, paid}
+use Rattle.ih_bound.specs.Paid.{stay_paid, theatre_paid, care_paid, bed_paid, paid}
 use Rattle.ih_bound.specs.Least.{bed_cost}
 use Rattle.ih_bound.specs.Stays.{Asked, IsAskedBy}
 use Rattle.ih_bound.proofs.RulesKept.{in-window, is-admitted, surgeon-fits, theatre-fits}
@@ -57,11 +57,11 @@ paid-left_out I rates t P p q e optional none =
 -- all that an admitted patient pays
 pub paid-admitted : (I : Draft) (rates : Rates) (t : Tariff) (P : Timetable) (p : ℕ) (q : Patient) (at : Placement) → p < patient_count I → slice_get I.patients p ≡ Some q → stay_of P p ≡ Some at
     → care_paid I rates t P p + bed_cost I t at.day.0 (person_of I p).length_of_stay
-    + (q.surgery_duration * t.surgeon q.surgeon_id.0 at.day.0 + q.surgery_duration * t.theatre at.theatre.0 at.day.0)
+    + (q.surgery_duration * t.surgeon q.surgeon_id.0 at.day.0 + theatre_paid t p q.surgery_duration at.theatre.0 at.day.0)
     + rates.delay * (at.day.0 - q.surgery_release_day) ≤ paid I rates t P p
 unfolding paid
 paid-admitted I rates t P p q at known e is =
-    let stay : stay_paid I rates t P p ≡ (q.surgery_duration * t.surgeon q.surgeon_id.0 at.day.0 + q.surgery_duration * t.theatre at.theatre.0 at.day.0)
+    let stay : stay_paid I rates t P p ≡ (q.surgery_duration * t.surgeon q.surgeon_id.0 at.day.0 + theatre_paid t p q.surgery_duration at.theatre.0 at.day.0)
     + (rates.delay * (at.day.0 - q.surgery_release_day) + rates.left_out * bit (not q.mandatory && false)) = rw (e, is) refl in
     let bed = beds-from I t P p at.day.0 at.room.0 (admission-stay I P p at known is) in
     omega (arith, stay, bed)

@@ -35,14 +35,14 @@ module _ (I : Draft) (P : Timetable) (valid : IsValid I) (feasible : IsFeasible 
   theatres_of p = sum_below I.days (λ d. sum_below (theatre_count I) (λ i. theatre_part I P valid feasible t i d p))
 
   surgery-share : (p : ℕ) (a : Patient) (stay : Option Placement) → slice_get I.patients p ≡ Some a → stay_of P p ≡ stay
-      → surgery_paid t a stay ≤ surgeons_of p + theatres_of p
+      → surgery_paid t p a stay ≤ surgeons_of p + theatres_of p
   surgery-share p a None e none = omega arith
   surgery-share p a (Some at) e is =
       let inside = feasible.plan.placed p at is in
       let known = (from-all (IsPatient I) I.patients p a valid.each_patient e).surgeon in
       let by_surgeon : surgeon_part I P valid feasible t a.surgeon_id.0 at.day.0 p ≡ t.surgeon a.surgeon_id.0 at.day.0 * a.surgery_duration =
       rw (e, is, eq-eqb a.surgeon_id.0 a.surgeon_id.0 refl, eq-eqb at.day.0 at.day.0 refl) refl in
-      let in_theatre : theatre_part I P valid feasible t at.theatre.0 at.day.0 p ≡ t.theatre at.theatre.0 at.day.0 * a.surgery_duration =
+      let in_theatre : theatre_part I P valid feasible t at.theatre.0 at.day.0 p ≡ t.theatre at.theatre.0 at.day.0 * a.surgery_duration + t.share p at.theatre.0 at.day.0 =
       rw (e, is, eq-eqb at.theatre.0 at.theatre.0 refl, eq-eqb at.day.0 at.day.0 refl) refl in
       let one = sum_below-term (surgeon_count I) a.surgeon_id.0 (λ s. surgeon_part I P valid feasible t s at.day.0 p) known in
       let two = sum_below-term I.days at.day.0 (λ d. sum_below (surgeon_count I) (λ s. surgeon_part I P valid feasible t s d p)) inside.day in
@@ -61,7 +61,7 @@ module _ (I : Draft) (P : Timetable) (valid : IsValid I) (feasible : IsFeasible 
   stay-share p = by_case (slice_get I.patients p) refl
     where
       by_case : (o : Option Patient) → slice_get I.patients p ≡ o
-          → option_map_or (λ a. surgery_paid t a (stay_of P p) + waiting_paid rates a (stay_of P p)) o 0
+          → option_map_or (λ a. surgery_paid t p a (stay_of P p) + waiting_paid rates a (stay_of P p)) o 0
           ≤ surgeons_of p + theatres_of p + rates.delay * option_map_or (λ a. delay a (stay_of P p)) o 0
           + rates.left_out * option_map_or (λ a. bit (not a.mandatory && is_none (stay_of P p))) o 0
       by_case None e = omega arith

@@ -17,7 +17,7 @@ use Rattle.ih_bound.specs.declared.scarcity.Thing.{Thing}
 use Rattle.ih_bound.specs.declared.scarcity.Thing.TheVariants.{Beds, OfSurgeon, OfTheatre}
 use Rattle.ih_bound.specs.Bounds.{IsFeasible}
 use Rattle.ih_bound.specs.Paid.{paid}
-use Rattle.ih_bound.specs.Tariffs.{Tariff, AreWeights, all_beds, tariff_of, work_income}
+use Rattle.ih_bound.specs.Tariffs.{Tariff, AreWeights, all_beds, all_shares, tariff_of, work_income}
 
 -- ---- what prices show
 
@@ -42,7 +42,7 @@ unfoldable pub income_of : Draft → Rates → Tariff → Supply → ℕ
 income_of I rates t s =
     sum_below I.days (λ d. t.bed d * s.beds d)
     + sum_below (surgeon_count I) (λ i. sum_below I.days (λ d. t.surgeon i d * s.surgeon i d))
-    + sum_below (theatre_count I) (λ i. sum_below I.days (λ d. t.theatre i d * s.theatre i d - rates.theatre))
+    + sum_below (theatre_count I) (λ i. sum_below I.days (λ d. t.theatre i d * s.theatre i d + all_shares I t i d - rates.theatre))
     + work_income I t
 
 -- In each feasible timetable all persons together pay at these prices so much more, at least, than what there is comes to.

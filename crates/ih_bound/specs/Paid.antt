@@ -45,11 +45,16 @@ unfoldable pub bed_paid : Draft → Tariff → Timetable → ℕ → ℕ
 bed_paid I t P x =
     sum_below I.days (λ d. if is_there (admission_of I P x) (person_of I x).length_of_stay d then t.bed d else 0)
 
--- what a patient with this stay pays for surgery
-abbrev pub surgery_paid : Tariff → Patient → Option Placement → ℕ
-surgery_paid t p None = 0
-surgery_paid t p (Some at) =
-    p.surgery_duration * t.surgeon p.surgeon_id.0 at.day.0 + p.surgery_duration * t.theatre at.theatre.0 at.day.0
+-- what patient x pays for so many minutes in theatre i on day d
+abbrev pub theatre_paid : Tariff → ℕ → ℕ → ℕ → ℕ → ℕ
+theatre_paid t x minutes i d = minutes * t.theatre i d + t.share x i d
+
+-- what patient x with this stay pays for surgery
+abbrev pub surgery_paid : Tariff → ℕ → Patient → Option Placement → ℕ
+surgery_paid t x p None = 0
+surgery_paid t x p (Some at) =
+    p.surgery_duration * t.surgeon p.surgeon_id.0 at.day.0
+    + theatre_paid t x p.surgery_duration at.theatre.0 at.day.0
 
 -- and for waiting, or for being left out
 abbrev pub waiting_paid : Rates → Patient → Option Placement → ℕ
@@ -57,7 +62,7 @@ waiting_paid rates p stay = rates.delay * delay p stay + rates.left_out * bit (n
 
 -- what patient x pays for its stay, and 0 for an occupant
 abbrev pub stay_paid : Draft → Rates → Tariff → Timetable → ℕ → ℕ
-stay_paid I rates t P x = of_patient I x (λ p. surgery_paid t p (stay_of P x) + waiting_paid rates p (stay_of P x))
+stay_paid I rates t P x = of_patient I x (λ p. surgery_paid t x p (stay_of P x) + waiting_paid rates p (stay_of P x))
 
 -- what person x pays
 unfoldable pub paid : Draft → Rates → Tariff → Timetable → ℕ → ℕ

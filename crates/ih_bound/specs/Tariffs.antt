@@ -3,7 +3,7 @@ use Rattle.std.specs.Prelude.{◌≡◌, ◌≤◌, ℕ, ◌+◌, ◌-◌, ◌*�
 use Rattle.ih_tables.specs.Bills.{at}
 use Rattle.std.specs.Option.{option_map_or}
 use Rattle.ih_tables.specs.declared.drafts.Draft.{Draft}
-use Rattle.ih_tables.specs.Sizes.{room_count, theatre_count, surgeon_count, nurse_count, shift_count}
+use Rattle.ih_tables.specs.Sizes.{patient_count, room_count, theatre_count, surgeon_count, nurse_count, shift_count}
 use Rattle.ih_tables.specs.Works.{max_load}
 use Rattle.ih_plan.specs.Timetable.{Timetable}
 use Rattle.ih_plan.specs.Sums.{sum_below}
@@ -13,12 +13,13 @@ use Rattle.ih_bound.specs.declared.prices.Rates.{Rates}
 use Rattle.ih_bound.specs.declared.prices.Prices.{Prices}
 
 -- The price of a bed by day, of a surgeon's and of a theatre's minute by number and day, and of a unit of workload by
--- nurse and shift.
+-- nurse and shift. And a share in an opening, by patient, theatre and day: what the patient pays there besides minutes.
 pub record Tariff : Type 0 where
   pub bed : ℕ → ℕ
   pub surgeon : ℕ → ℕ → ℕ
   pub theatre : ℕ → ℕ → ℕ
   pub work : ℕ → ℕ → ℕ
+  pub share : ℕ → ℕ → ℕ → ℕ
 
 -- a price of a list, no more than so much
 abbrev pub price_in : List ℕ → ℕ → ℕ → ℕ
@@ -31,6 +32,7 @@ tariff_of I rates m = record {
   surgeon = λ s d. price_in m.surgeon.items (I.days * s + d) (2 ^ 29);
   theatre = λ t d. price_in m.theatre.items (I.days * t + d) (2 ^ 29);
   work = λ n k. price_in m.work.items (shift_count I * n + k) rates.load;
+  share = λ p i d. price_in m.share.items (patient_count I * (I.days * i + d) + p) (2 ^ 29);
 }
 
 -- how many persons all rooms are for
@@ -41,17 +43,22 @@ all_beds I = sum_below (room_count I) (capacity_of I)
 abbrev pub load_limit : Draft → ℕ → ℕ → ℕ
 load_limit I n k = option_map_or (λ (most : ℕ). most) (max_load I n k) 0
 
--- what all beds, minutes and workloads that there are come to at these prices; a theatre's minutes only above what it
--- is worth to open it
+-- what all beds, minutes and workloads that there are come to at these prices; a theatre's minutes and shares only
+-- above what it is worth to open it
 abbrev pub bed_income : Draft → Tariff → ℕ
 bed_income I t = sum_below I.days (λ d. t.bed d * all_beds I)
 
 abbrev pub surgeon_income : Draft → Tariff → ℕ
 surgeon_income I t = sum_below (surgeon_count I) (λ s. sum_below I.days (λ d. t.surgeon s d * surgeon_maximum I s d))
 
+-- the shares of all patients in theatre i on day d
+abbrev pub all_shares : Draft → Tariff → ℕ → ℕ → ℕ
+all_shares I t i d = sum_below (patient_count I) (λ p. t.share p i d)
+
 abbrev pub theatre_income : Draft → Rates → Tariff → ℕ
 theatre_income I rates t =
-    sum_below (theatre_count I) (λ i. sum_below I.days (λ d. t.theatre i d * theatre_availability I i d - rates.theatre))
+    sum_below (theatre_count I) (λ i. sum_below I.days (λ d.
+    t.theatre i d * theatre_availability I i d + all_shares I t i d - rates.theatre))
 
 abbrev pub work_income : Draft → Tariff → ℕ
 work_income I t = sum_below (nurse_count I) (λ n. sum_below (shift_count I) (λ k. t.work n k * load_limit I n k))

@@ -2,8 +2,9 @@
 
 use crate::dealing::BoundWorker;
 use crate::demand::{Demand, Spent};
-use crate::moving::{Directions, Step, begin, copy, occupants_by_day};
-use crate::prices::{Prices, Rates};
+use crate::moving::{Directions, Step, copy, occupants_by_day};
+use crate::prices::{Prices, Rates, count_of_shares};
+use crate::sharing::{Wanted, begin};
 use ih_tables::Instance;
 use std::alloc::{AllocError, Global};
 
@@ -46,6 +47,7 @@ pub struct Climb {
     pace: Pace,
     demand: Demand,
     directions: Directions,
+    wanted: Wanted,
     occupants: Vec<u64>,
     /// What the choices of the last rounds are worth on average.
     pub spent: Spent,
@@ -59,11 +61,12 @@ impl Climb {
         rates: &Rates,
         plain: u32,
     ) -> Result<Climb, AllocError> {
-        let mut prices = Prices::new(alloc, inst)?;
+        let shares = count_of_shares(inst, rates);
+        let mut prices = Prices::new(alloc, inst, shares)?;
         begin(inst, rates, &mut prices);
         Ok(Climb {
             prices,
-            best_prices: Prices::new(alloc, inst)?,
+            best_prices: Prices::new(alloc, inst, shares)?,
             best: 0,
             plain,
             pace: Pace {
@@ -72,6 +75,7 @@ impl Climb {
             },
             demand: Demand::new(alloc, inst)?,
             directions: Directions::new(alloc, inst)?,
+            wanted: Wanted::new(alloc, inst, shares)?,
             occupants: occupants_by_day(alloc, inst)?,
             spent: Spent::none(),
         })
@@ -110,16 +114,24 @@ impl Climb {
             idle: 0,
         };
         copy(&self.best_prices, &mut self.prices);
+        self.forget();
+    }
+
+    // Drops what the last rounds asked for.
+    fn forget(&mut self) {
         self.directions.forget();
+        self.wanted.forget();
     }
 
     // Turns the directions by what is asked for; tells how far they go in all.
     fn turn(&mut self, inst: &Instance, rates: &Rates, with_work: bool) -> u64 {
         self.directions
             .turn(inst, &self.demand, self.occupants.as_slice());
+        self.wanted.turn(inst, &self.demand);
         let size = self
             .directions
-            .size(inst, rates, &self.prices)
+            .size(inst, &self.prices)
+            .saturating_add(self.wanted.size(inst, rates, &self.prices))
             .saturating_mul(256);
         if !with_work {
             return size;
@@ -134,7 +146,7 @@ impl Climb {
         let mut size = self.turn(inst, rates, with_work);
         if size == 0 {
             // Where the last rounds point to nothing, the demand of this one may.
-            self.directions.forget();
+            self.forget();
             size = self.turn(inst, rates, with_work);
         }
         if size == 0 {
@@ -145,7 +157,8 @@ impl Climb {
             by: reach >> 8,
             of: size,
         };
-        self.directions.step(inst, rates, &mut self.prices, step);
+        self.directions.step(inst, &mut self.prices, step);
+        self.wanted.step(inst, rates, &mut self.prices, step);
         if with_work {
             let step = Step {
                 by: reach >> 11,
@@ -176,7 +189,7 @@ impl Climb {
             return true;
         }
         if self.pace.idle > PATIENCE {
-            self.go_back(self.pace.length.saturating_mul(70) / 100);
+            self.go_back(self.pace.length.saturating_mul(71) / 100);
             return self.pace.length >= SHORTEST;
         }
         let with_work = round >= self.plain && rates.load > 0;

@@ -5,10 +5,10 @@ ghost use Rattle.ih_tables.specs.Sizes.{patient_count, shift_count};
 
 use crate::numbers::put;
 use crate::prices::{Prices, Rates, at, opening, place};
-use crate::scratch::Scratch;
+use crate::scratch::{Scratch, zeros};
 use crate::stays::{Stay, care_price, need_at};
 use ih_plan::end_from;
-use ih_tables::{Instance, NurseNo, Patient, PatientNo, Shift, TheatreNo};
+use ih_tables::{Instance, NurseNo, PatientNo, Shift, TheatreNo};
 use ih_validate::{Resource, limit_of};
 use std::alloc::{AllocError, Global};
 
@@ -19,6 +19,8 @@ pub type Amounts = Prices;
 #[derive(Drop)]
 pub struct Demand {
     pub amounts: Amounts,
+    /// By patient, one more than the place of its theatre and day, or 0.
+    pub chosen: Vec<u64>,
     /// What it is worth that patients wait and are left out, and what theatres cost at what it is worth to open them.
     pub spent: Spent,
 }
@@ -81,15 +83,23 @@ fn add_list(list: &mut [u64], other: &[u64]) {
     }
 }
 
-// The theatre with the cheapest minute on a day, of those that are available for so long.
-fn cheapest_theatre(inst: &Instance, prices: &Prices, day: u32, minutes: u32) -> u32 {
+// The theatre in which surgery costs least on a day, of those that are available for so long.
+fn cheapest_theatre(
+    inst: &Instance,
+    prices: &Prices,
+    patient: PatientNo,
+    minutes: u32,
+    day: u32,
+) -> u32
+    requires { day < inst.now.draft.days }
+{
     let mut least = u64::MAX;
     let mut best = 0;
     for t in 0..inst.theatres() {
         if limit_of(inst, Resource::OfTheatre(TheatreNo(t)), day) >= minutes as u64 {
-            let price = prices.theatre_on(inst.days(), t, day);
-            if price < least {
-                least = price;
+            let cost = prices.cost_in(inst, patient, minutes, t, day);
+            if cost < least {
+                least = cost;
                 best = t;
             }
         }
@@ -101,7 +111,8 @@ impl Demand {
     /// Nothing is asked for.
     pub fn new(alloc: Global, inst: &Instance) -> Result<Demand, AllocError> {
         Ok(Demand {
-            amounts: Amounts::new(alloc, inst)?,
+            amounts: Amounts::new(alloc, inst, 0)?,
+            chosen: zeros(alloc, inst.patients() as usize)?,
             spent: Spent::none(),
         })
     }
@@ -113,6 +124,7 @@ impl Demand {
         clear(amounts.surgeon.as_mut_slice());
         clear(amounts.theatre.as_mut_slice());
         clear(amounts.work.as_mut_slice());
+        clear(self.chosen.as_mut_slice());
         self.spent = Spent::none();
     }
 
@@ -124,6 +136,7 @@ impl Demand {
         add_list(amounts.surgeon.as_mut_slice(), others.surgeon.as_slice());
         add_list(amounts.theatre.as_mut_slice(), others.theatre.as_slice());
         add_list(amounts.work.as_mut_slice(), others.work.as_slice());
+        add_list(self.chosen.as_mut_slice(), other.chosen.as_slice());
         self.spent.add(&other.spent);
     }
 
@@ -187,18 +200,28 @@ impl Demand {
         inst: &Instance,
         rates: &Rates,
         prices: &Prices,
-        patient: &Patient,
+        patient: PatientNo,
         day: u32,
-    ) {
-        for d in day..end_from(inst, day, patient.length_of_stay) {
+    )
+        requires patient { patient.0 < patient_count inst.now.draft }
+        requires day { day < inst.now.draft.days }
+    {
+        let q = inst.patient(patient);
+        for d in day..end_from(inst, day, q.length_of_stay) {
             add(self.amounts.bed.as_mut_slice(), d as usize, 1);
         }
         let days = inst.days();
-        let minutes = patient.surgery_duration;
-        let t = cheapest_theatre(inst, prices, day, minutes);
+        let minutes = q.surgery_duration;
+        let t = cheapest_theatre(inst, prices, patient, minutes, day);
+        let chosen = place(days, t, day) as u64;
+        put(
+            self.chosen.as_mut_slice(),
+            patient.0 as usize,
+            chosen.saturating_add(1),
+        );
         add(
             self.amounts.surgeon.as_mut_slice(),
-            place(days, patient.surgeon_id.0, day),
+            place(days, q.surgeon_id.0, day),
             minutes as u64,
         );
         add(
@@ -206,7 +229,7 @@ impl Demand {
             place(days, t, day),
             minutes as u64,
         );
-        let wait = day.saturating_sub(patient.surgery_release_day) as u64;
+        let wait = day.saturating_sub(q.surgery_release_day) as u64;
         let opening = opening(inst, rates, t, day);
         self.spent.add(&Spent {
             delay: rates.delay.saturating_mul(wait),

@@ -8,6 +8,7 @@ ghost use Rattle.ih_bound.specs.Hints.{HasPrices, IsHinted, IsThing, all_points,
 ghost use Rattle.ih_bound.specs.Hints.{place_count, points_at, points_text, relief, surgeon_id, theatre_id, thing_in};
 
 use crate::greatest::ten_greatest;
+use crate::incomes::all_shares;
 use crate::outcomes::{Outcome, Priced};
 use crate::prices::{Prices, Rates, at};
 use crate::scarcity::Thing;
@@ -31,12 +32,13 @@ fn thing_in(inst: &Instance, row: u32) -> Thing
     }
 }
 
-// By how much 60 more minutes come to more at a price, above what it is worth to open a theatre.
-fn more_above(price: u64, minutes: u64, opening: u64) -> u64
+// By how much 60 more minutes come to more at a price, with shares, above what it is worth to open a theatre.
+fn more_above(price: u64, minutes: u64, shares: u64, opening: u64) -> u64
     requires { price ≤ 2 ^ 29 }
-    ensures { result ≡ price * (minutes + 60) - opening - (price * minutes - opening) }
+    ensures { result ≡ price * (minutes + 60) + shares - opening - (price * minutes + shares - opening) }
 {
-    let missing = opening.saturating_sub(price.saturating_mul(minutes));
+    let all = price.saturating_mul(minutes).saturating_add(shares);
+    let missing = opening.saturating_sub(all);
     (60 * price).saturating_sub(missing)
 }
 
@@ -91,6 +93,7 @@ fn relief_of_theatre(
     more_above(
         theatre_price(inst, rates, prices, theatre.0, day),
         limit_of(inst, Resource::OfTheatre(theatre), day),
+        all_shares(inst, rates, prices, theatre.0, day),
         rates.theatre,
     )
 }

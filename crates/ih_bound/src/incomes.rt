@@ -1,10 +1,10 @@
 //! What all beds, minutes and workloads that there are come to at prices.
 
-ghost use Rattle.std.specs.Prelude.{◌≡◌, ◌<◌, ◌≤◌, ◌-◌, ◌*◌, ℕ};
+ghost use Rattle.std.specs.Prelude.{◌≡◌, ◌<◌, ◌≤◌, ◌+◌, ◌-◌, ◌*◌, ℕ};
 ghost use Rattle.ih_tables.specs.Sizes.{surgeon_count, theatre_count, nurse_count, shift_count};
 ghost use Rattle.ih_plan.specs.Sums.{sum_below};
 ghost use Rattle.ih_plan.specs.Costs.{surgeon_maximum, theatre_availability};
-ghost use Rattle.ih_bound.specs.Tariffs.{AtLeast, tariff_of, all_beds, load_limit, income, bed_income, surgeon_income};
+ghost use Rattle.ih_bound.specs.Tariffs.{AtLeast, tariff_of, all_beds, all_shares, load_limit, income, bed_income, surgeon_income};
 ghost use Rattle.ih_bound.specs.Tariffs.{theatre_income, work_income};
 
 use crate::prices::{Prices, Rates};
@@ -65,14 +65,28 @@ fn surgeon_income(inst: &Instance, rates: &Rates, prices: &Prices) -> u64
     )
 }
 
-// At least what minutes come to at a price, above what it is worth to open a theatre.
-fn above_opening(price: u64, minutes: u64, opening: u64) -> u64
-    ensures { AtLeast (price * minutes - opening) result }
+/// The shares of all patients in a theatre on a day.
+pub fn all_shares(inst: &Instance, rates: &Rates, prices: &Prices, theatre: u32, day: u32) -> u64
+    requires theatre { theatre < theatre_count inst.now.draft }
+    requires day { day < inst.now.draft.days }
+    ensures { result ≡ all_shares inst.now.draft (tariff_of inst.now.draft rates.now prices.now) theatre day }
 {
-    match price.checked_mul(minutes) {
-        Some(product) => product.saturating_sub(opening),
-        None => u64::MAX,
+    let mut sum = 0;
+    for p in 0..inst.patients() {
+        sum += prices.share_on(inst, theatre, day, p);
     }
+    sum
+}
+
+// At least what minutes come to at a price, and shares, above what it is worth to open a theatre.
+fn above_opening(price: u64, minutes: u64, shares: u64, opening: u64) -> u64
+    ensures { AtLeast (price * minutes + shares - opening) result }
+{
+    let all = price.saturating_mul(minutes).saturating_add(shares);
+    if all == u64::MAX {
+        return all;
+    }
+    all - all.min(opening)
 }
 
 // Of one theatre, above what it is worth to open it.
@@ -80,12 +94,20 @@ fn income_of_theatre(inst: &Instance, rates: &Rates, prices: &Prices, theatre: u
     requires { theatre < theatre_count inst.now.draft }
     ensures { AtLeast (sum_below inst.now.draft.days
         (λ d. (tariff_of inst.now.draft rates.now prices.now).theatre theatre d
-        * theatre_availability inst.now.draft theatre d - rates.now.theatre)) result }
+        * theatre_availability inst.now.draft theatre d
+        + all_shares inst.now.draft (tariff_of inst.now.draft rates.now prices.now) theatre d
+        - rates.now.theatre)) result }
 {
     let days = inst.days();
     total(days, |d| {
         let minutes = limit_of(inst, Resource::OfTheatre(TheatreNo(theatre)), d);
-        above_opening(prices.theatre_on(days, theatre, d), minutes, rates.theatre)
+        let shares = all_shares(inst, rates, prices, theatre, d);
+        above_opening(
+            prices.theatre_on(days, theatre, d),
+            minutes,
+            shares,
+            rates.theatre,
+        )
     })
 }
 

@@ -20,6 +20,7 @@ mod people;
 mod prices;
 mod scarcity;
 mod scratch;
+mod sharing;
 mod sharpening;
 mod stays;
 mod texts;

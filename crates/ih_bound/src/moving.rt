@@ -1,10 +1,11 @@
-//! How prices move from round to round: towards what is asked for more than there is. Nothing rests on it.
+//! How prices of beds, surgeons and workload move from round to round: towards what is asked for more than there is.
+//! Nothing rests on it.
 
 use crate::demand::Demand;
 use crate::numbers::put;
-use crate::prices::{MOST_FOR_BED, MOST_FOR_MINUTE, Prices, Rates, at, opening, place};
+use crate::prices::{MOST_FOR_BED, MOST_FOR_MINUTE, Prices, Rates, at, place};
 use crate::scratch::zeros;
-use ih_tables::{Instance, NurseNo, RoomNo, Shift, SurgeonNo, TheatreNo};
+use ih_tables::{Instance, NurseNo, RoomNo, Shift, SurgeonNo};
 use ih_validate::{Resource, limit_of};
 use std::alloc::{AllocError, Global};
 
@@ -27,7 +28,6 @@ pub struct Step {
 pub struct Directions {
     bed: Vec<Direction>,
     surgeon: Vec<Direction>,
-    theatre: Vec<Direction>,
     work: Vec<Direction>,
 }
 
@@ -128,26 +128,13 @@ fn beds(inst: &Instance) -> u64 {
     sum
 }
 
-/// Prices to begin with: only theatres have one, by what it is worth to open them.
-pub fn begin(inst: &Instance, rates: &Rates, prices: &mut Prices) {
-    for t in 0..inst.theatres() {
-        for d in 0..inst.days() {
-            let price = opening(inst, rates, t, d);
-            put(
-                prices.theatre.as_mut_slice(),
-                place(inst.days(), t, d),
-                price,
-            );
-        }
-    }
-}
-
 /// Makes prices the same as others.
 pub fn copy(from: &Prices, to: &mut Prices) {
     copy_list(from.bed.as_slice(), to.bed.as_mut_slice());
     copy_list(from.surgeon.as_slice(), to.surgeon.as_mut_slice());
     copy_list(from.theatre.as_slice(), to.theatre.as_mut_slice());
     copy_list(from.work.as_slice(), to.work.as_mut_slice());
+    copy_list(from.share.as_slice(), to.share.as_mut_slice());
 }
 
 fn copy_list(from: &[u64], to: &mut [u64]) {
@@ -163,7 +150,6 @@ impl Directions {
         Ok(Directions {
             bed: stills(alloc, days)?,
             surgeon: stills(alloc, days * inst.surgeons() as usize)?,
-            theatre: stills(alloc, days * inst.theatres() as usize)?,
             work: stills(alloc, inst.shifts() as usize * inst.nurses() as usize)?,
         })
     }
@@ -172,11 +158,10 @@ impl Directions {
     pub fn forget(&mut self) {
         still(self.bed.as_mut_slice());
         still(self.surgeon.as_mut_slice());
-        still(self.theatre.as_mut_slice());
         still(self.work.as_mut_slice());
     }
 
-    /// Turns those of beds and minutes by the demand of a round.
+    /// Turns those of beds and surgeons by the demand of a round.
     pub fn turn(&mut self, inst: &Instance, demand: &Demand, persons: &[u64]) {
         let beds = beds(inst);
         let amounts = &demand.amounts;
@@ -184,12 +169,6 @@ impl Directions {
             let i = d as usize;
             let asked = at(amounts.bed.as_slice(), i).saturating_add(at(persons, i));
             smooth(self.bed.as_mut_slice(), i, asked, beds, BEDS);
-            for t in 0..inst.theatres() {
-                let i = place(inst.days(), t, d);
-                let asked = at(amounts.theatre.as_slice(), i);
-                let supply = limit_of(inst, Resource::OfTheatre(TheatreNo(t)), d);
-                smooth(self.theatre.as_mut_slice(), i, asked, supply, MINUTES);
-            }
             for s in 0..inst.surgeons() {
                 let i = place(inst.days(), s, d);
                 let asked = at(amounts.surgeon.as_slice(), i);
@@ -217,20 +196,13 @@ impl Directions {
         }
     }
 
-    /// The squares of those of beds and minutes, summed.
-    pub fn size(&self, inst: &Instance, rates: &Rates, prices: &Prices) -> u64 {
+    /// The squares of those of beds and surgeons, summed.
+    pub fn size(&self, inst: &Instance, prices: &Prices) -> u64 {
         let mut sum: u64 = 0;
         for d in 0..inst.days() {
             let i = d as usize;
             let bed = direction_at(self.bed.as_slice(), i);
             sum = sum.saturating_add(square(bed, at(prices.bed.as_slice(), i), 0, MOST_FOR_BED));
-            for t in 0..inst.theatres() {
-                let i = place(inst.days(), t, d);
-                let theatre = direction_at(self.theatre.as_slice(), i);
-                let low = opening(inst, rates, t, d);
-                let price = at(prices.theatre.as_slice(), i);
-                sum = sum.saturating_add(square(theatre, price, low, MOST_FOR_MINUTE));
-            }
             for s in 0..inst.surgeons() {
                 let i = place(inst.days(), s, d);
                 let surgeon = direction_at(self.surgeon.as_slice(), i);
@@ -251,8 +223,8 @@ impl Directions {
         sum
     }
 
-    /// Moves the prices of beds and minutes.
-    pub fn step(&self, inst: &Instance, rates: &Rates, prices: &mut Prices, step: Step) {
+    /// Moves the prices of beds and surgeons.
+    pub fn step(&self, inst: &Instance, prices: &mut Prices, step: Step) {
         let by_minute = Step {
             by: step.by,
             of: step.of.saturating_mul(MINUTES.unit),
@@ -262,14 +234,6 @@ impl Directions {
             let bed = direction_at(self.bed.as_slice(), i);
             let price = moved(at(prices.bed.as_slice(), i), bed, step, 0, MOST_FOR_BED);
             put(prices.bed.as_mut_slice(), i, price);
-            for t in 0..inst.theatres() {
-                let i = place(inst.days(), t, d);
-                let theatre = direction_at(self.theatre.as_slice(), i);
-                let low = opening(inst, rates, t, d);
-                let old = at(prices.theatre.as_slice(), i);
-                let price = moved(old, theatre, by_minute, low, MOST_FOR_MINUTE);
-                put(prices.theatre.as_mut_slice(), i, price);
-            }
             for s in 0..inst.surgeons() {
                 let i = place(inst.days(), s, d);
                 let surgeon = direction_at(self.surgeon.as_slice(), i);

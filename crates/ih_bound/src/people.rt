@@ -8,7 +8,7 @@ ghost use Rattle.ih_plan.specs.Costs.{theatre_availability, surgeon_maximum};
 ghost use Rattle.ih_plan.specs.Presence.{end_from};
 ghost use Rattle.ih_bound.specs.Bounds.{IsFeasible};
 ghost use Rattle.ih_bound.specs.Tariffs.{Tariff, tariff_of, price_in};
-ghost use Rattle.ih_bound.specs.Paid.{paid};
+ghost use Rattle.ih_bound.specs.Paid.{paid, theatre_paid};
 ghost use Rattle.ih_bound.specs.Least.{
   BoundsPerson,
   BoundsAdmitted,
@@ -33,41 +33,40 @@ use ih_validate::{Resource, limit_of};
 /// No person is said to pay more.
 const MOST_PAID: u64 = 1 << 50;
 
-// At most the price of a minute in each theatre that is available for so long on the day.
-fn theatre_price(inst: &Instance, prices: &Prices, day: u32, minutes: u32) -> u64
+// At most what surgery costs in each theatre that is available for so long on the day.
+fn theatre_cost(inst: &Instance, prices: &Prices, patient: PatientNo, minutes: u32, day: u32) -> u64
     requires { day < inst.now.draft.days }
-    ensures { (i : ℕ) → i < theatre_count inst.now.draft → minutes ≤ theatre_availability inst.now.draft i day
-        → result ≤ price_in prices.now.theatre.items (inst.now.draft.days * i + day) (2 ^ 29) }
+    ensures { (rates : Rates) (i : ℕ) → i < theatre_count inst.now.draft
+        → minutes ≤ theatre_availability inst.now.draft i day
+        → result ≤ theatre_paid (tariff_of inst.now.draft rates prices.now) patient.0 minutes i day }
 {
     let mut least = u64::MAX;
     for t in 0..inst.theatres() {
         if limit_of(inst, Resource::OfTheatre(TheatreNo(t)), day) >= minutes as u64 {
-            least = least.min(prices.theatre_on(inst.days(), t, day));
+            least = least.min(prices.cost_in(inst, patient, minutes, t, day));
         }
     }
     least
 }
 
 // At most what surgery on the day costs in each theatre that is available for long enough.
-fn surgery_cost(inst: &Instance, prices: &Prices, patient: &Patient, day: u32) -> u64
+fn surgery_cost(inst: &Instance, prices: &Prices, patient: PatientNo, q: &Patient, day: u32) -> u64
     requires day { day < inst.now.draft.days }
-    requires surgeon { patient.now.surgeon_id.0 < surgeon_count inst.now.draft }
-    ensures { (i : ℕ) → i < theatre_count inst.now.draft
-        → patient.now.surgery_duration ≤ theatre_availability inst.now.draft i day
-        → patient.now.surgery_duration ≤ surgeon_maximum inst.now.draft patient.now.surgeon_id.0 day
-        → result ≤ patient.now.surgery_duration * price_in prices.now.surgeon.items
-        (inst.now.draft.days * patient.now.surgeon_id.0 + day) (2 ^ 29)
-        + patient.now.surgery_duration * price_in prices.now.theatre.items (inst.now.draft.days * i + day) (2 ^ 29) }
+    requires surgeon { q.now.surgeon_id.0 < surgeon_count inst.now.draft }
+    ensures { (rates : Rates) (i : ℕ) → i < theatre_count inst.now.draft
+        → q.now.surgery_duration ≤ theatre_availability inst.now.draft i day
+        → q.now.surgery_duration ≤ surgeon_maximum inst.now.draft q.now.surgeon_id.0 day
+        → result ≤ q.now.surgery_duration * price_in prices.now.surgeon.items
+        (inst.now.draft.days * q.now.surgeon_id.0 + day) (2 ^ 29)
+        + theatre_paid (tariff_of inst.now.draft rates prices.now) patient.0 q.now.surgery_duration i day }
 {
-    let minutes = patient.surgery_duration as u64;
-    if limit_of(inst, Resource::OfSurgeon(patient.surgeon_id), day) < minutes {
+    let minutes = q.surgery_duration as u64;
+    if limit_of(inst, Resource::OfSurgeon(q.surgeon_id), day) < minutes {
         return u64::MAX;
     }
-    let surgeon = prices.surgeon_on(inst.days(), patient.surgeon_id.0, day);
-    let theatre = theatre_price(inst, prices, day, patient.surgery_duration);
-    minutes
-        .saturating_mul(surgeon)
-        .saturating_add(minutes.saturating_mul(theatre))
+    let surgeon = prices.surgeon_on(inst.days(), q.surgeon_id.0, day);
+    let theatre = theatre_cost(inst, prices, patient, q.surgery_duration, day);
+    minutes.saturating_mul(surgeon).saturating_add(theatre)
 }
 
 // At most what beds cost for so many days from a day on.
@@ -93,7 +92,7 @@ fn base_cost(inst: &Instance, rates: &Rates, prices: &Prices, patient: PatientNo
     let wait = rates
         .delay
         .saturating_mul(day.saturating_sub(q.surgery_release_day) as u64);
-    let surgery = surgery_cost(inst, prices, q, day);
+    let surgery = surgery_cost(inst, prices, patient, q, day);
     let beds = bed_cost(inst, prices, rates, day, q.length_of_stay);
     wait.saturating_add(surgery).saturating_add(beds)
 }
@@ -308,7 +307,7 @@ fn add_demand(
                 if scratch.numbered != Some(a) {
                     choose_numbers(inst, rates, prices, &stay, scratch);
                 }
-                demand.add_stay(inst, rates, prices, q, a);
+                demand.add_stay(inst, rates, prices, patient, a);
                 demand.add_care(inst, rates, prices, &stay, scratch);
             }
         }

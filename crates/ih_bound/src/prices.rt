@@ -1,10 +1,12 @@
 //! Prices of what is scarce, and what a unit of each cost is worth. All are in parts of a unit of cost: 4,096 make one.
 
 ghost use Rattle.std.specs.Prelude.{◌≡◌, ◌+◌, ◌*◌, ◌^◌, ◌≤◌, ◌<◌, min, slice_index, []};
-ghost use Rattle.ih_bound.specs.Tariffs.{weight};
+ghost use Rattle.ih_tables.specs.Sizes.{patient_count, theatre_count};
+ghost use Rattle.ih_bound.specs.Tariffs.{tariff_of, weight};
+ghost use Rattle.ih_bound.specs.Paid.{theatre_paid};
 
 use crate::scratch::zeros;
-use ih_tables::{Instance, TheatreNo};
+use ih_tables::{Instance, PatientNo, TheatreNo};
 use ih_validate::{Resource, limit_of};
 use std::alloc::{AllocError, Global};
 
@@ -36,6 +38,8 @@ pub struct Prices {
     pub theatre: Vec<u64>,
     /// Of a unit of workload, by nurse and shift.
     pub work: Vec<u64>,
+    /// What a patient pays besides minutes, by theatre, day and patient.
+    pub share: Vec<u64>,
 }
 
 /// What stands at a place of a list, and 0 past its end.
@@ -53,6 +57,10 @@ pub fn at(list: &[u64], index: usize) -> u64
 pub const MOST_FOR_BED: u64 = 1 << 36;
 /// No minute is dearer.
 pub const MOST_FOR_MINUTE: u64 = 1 << 29;
+/// No share is greater.
+pub const MOST_FOR_SHARE: u64 = 1 << 29;
+// No more shares have a place, so that lists stay below 16 MB.
+const MOST_SHARES: usize = 1 << 21;
 
 // The weight of a cost.
 fn weight(inst: &Instance, index: usize) -> u64
@@ -107,8 +115,8 @@ impl Rates {
 impl Prices {
     ghost use Rattle.ih_bound.specs.Tariffs.{price_in};
 
-    /// Nothing has a price.
-    pub fn new(alloc: Global, inst: &Instance) -> Result<Prices, AllocError> {
+    /// Nothing has a price. So many shares have a place.
+    pub fn new(alloc: Global, inst: &Instance, shares: usize) -> Result<Prices, AllocError> {
         let days = inst.days() as usize;
         let shifts = inst.shifts() as usize;
         Ok(Prices {
@@ -116,6 +124,7 @@ impl Prices {
             surgeon: zeros(alloc, days * inst.surgeons() as usize)?,
             theatre: zeros(alloc, days * inst.theatres() as usize)?,
             work: zeros(alloc, shifts * inst.nurses() as usize)?,
+            share: zeros(alloc, shares)?,
         })
     }
 
@@ -128,6 +137,7 @@ impl Prices {
             surgeon: Vec::new(alloc),
             theatre: Vec::new(alloc),
             work: Vec::new(alloc),
+            share: Vec::new(alloc),
         }
     }
 
@@ -162,6 +172,53 @@ impl Prices {
     {
         at(self.work.as_slice(), place(shifts, nurse, shift)).min(rates.load)
     }
+
+    /// What a patient pays besides minutes in a theatre on a day.
+    #[inline(always)]
+    pub fn share_on(&self, inst: &Instance, theatre: u32, day: u32, patient: u32) -> u64
+        requires theatre { theatre < theatre_count inst.now.draft }
+        requires day { day < inst.now.draft.days }
+        ensures { result ≡ price_in self.now.share.items
+            (patient_count inst.now.draft * (inst.now.draft.days * theatre + day) + patient) (2 ^ 29) }
+    {
+        at(
+            self.share.as_slice(),
+            place_of_share(inst, theatre, day, patient),
+        )
+        .min(MOST_FOR_SHARE)
+    }
+
+    /// At most what a patient pays for so many minutes in a theatre on a day.
+    #[inline(always)]
+    pub fn cost_in(
+        &self,
+        inst: &Instance,
+        patient: PatientNo,
+        minutes: u32,
+        theatre: u32,
+        day: u32,
+    ) -> u64
+        requires theatre { theatre < theatre_count inst.now.draft }
+        requires day { day < inst.now.draft.days }
+        ensures { (rates : Rates) → result ≤ theatre_paid (tariff_of inst.now.draft rates self.now) patient.0 minutes
+            theatre day }
+    {
+        (minutes as u64)
+            .saturating_mul(self.theatre_on(inst.days(), theatre, day))
+            .saturating_add(self.share_on(inst, theatre, day, patient.0))
+    }
+}
+
+/// How many shares have a place: none where it is worth nothing to open a theatre, or where they were too many.
+pub fn count_of_shares(inst: &Instance, rates: &Rates) -> usize {
+    let all = (inst.patients() as usize)
+        .saturating_mul(inst.theatres() as usize)
+        .saturating_mul(inst.days() as usize);
+    if rates.theatre == 0 || all > MOST_SHARES {
+        0
+    } else {
+        all
+    }
 }
 
 /// What it is worth to open a theatre, by minute of a day.
@@ -183,4 +240,14 @@ pub fn place(width: u32, row: u32, column: u32) -> usize
     ensures { result ≡ width * row + column }
 {
     width as usize * row as usize + column as usize
+}
+
+/// Where the share of a patient in a theatre on a day stands.
+#[inline(always)]
+pub fn place_of_share(inst: &Instance, theatre: u32, day: u32, patient: u32) -> usize
+    requires theatre { theatre < theatre_count inst.now.draft }
+    requires day { day < inst.now.draft.days }
+    ensures { result ≡ patient_count inst.now.draft * (inst.now.draft.days * theatre + day) + patient }
+{
+    inst.patients() as usize * place(inst.days(), theatre, day) + patient as usize
 }
