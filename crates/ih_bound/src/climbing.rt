@@ -127,7 +127,7 @@ impl Climb {
     fn turn(&mut self, inst: &Instance, rates: &Rates, with_work: bool) -> u64 {
         self.directions
             .turn(inst, &self.demand, self.occupants.as_slice());
-        self.wanted.turn(inst, &self.demand);
+        self.wanted.turn(inst, &self.demand, &self.prices);
         let size = self
             .directions
             .size(inst, &self.prices)

@@ -64,14 +64,16 @@ impl Spent {
     }
 }
 
-fn clear(list: &mut [u64]) {
+/// Makes all numbers 0.
+pub fn clear(list: &mut [u64]) {
     for x in list.iter_mut() {
         *x = 0;
     }
 }
 
+/// Adds to an entry of a list, where it has one there.
 #[inline(always)]
-fn add(list: &mut [u64], index: usize, by: u64) {
+pub fn add(list: &mut [u64], index: usize, by: u64) {
     if let Some(x) = list.get_mut(index) {
         *x = x.saturating_add(by);
     }

@@ -4,7 +4,7 @@
 ghost use Rattle.std.specs.Prelude.{◌<◌};
 ghost use Rattle.ih_tables.specs.Sizes.{theatre_count};
 
-use crate::demand::Demand;
+use crate::demand::{Demand, add, clear};
 use crate::moving::Step;
 use crate::numbers::put;
 use crate::prices::{MOST_FOR_MINUTE, MOST_FOR_SHARE, Prices, Rates, at, opening, place};
@@ -31,9 +31,13 @@ pub struct Wanted {
     shares: Vec<u64>,
     // What asking in all rounds would come to.
     rounds: u64,
+    // The places of shares that aren't 0 or were asked for, row by row. The others needn't be looked at.
+    live: Vec<u64>,
+    // Where the rows of live places begin, and where the last ends.
+    begins: Vec<u64>,
 }
 
-// A theatre on a day, with its minutes and the places of its shares.
+// A theatre on a day, with its minutes and where its live places stand.
 #[derive(Clone, Copy)]
 struct Row {
     place: usize,
@@ -49,37 +53,6 @@ struct Level {
     slope: u64,
 }
 
-fn row_of(inst: &Instance, shares: usize, theatre: u32, day: u32) -> Row
-    requires { theatre < theatre_count inst.now.draft }
-{
-    let row = place(inst.days(), theatre, day);
-    let first = row.saturating_mul(inst.patients() as usize);
-    Row {
-        place: row,
-        minutes: limit_of(inst, Resource::OfTheatre(TheatreNo(theatre)), day),
-        first: first.min(shares),
-        end: first.saturating_add(inst.patients() as usize).min(shares),
-    }
-}
-
-fn level_of(prices: &Prices, row: Row) -> Level {
-    let price = at(prices.theatre.as_slice(), row.place);
-    let mut sum = price.saturating_mul(row.minutes);
-    let mut slope = if price > 0 {
-        squared(row.minutes) / (HOUR * HOUR)
-    } else {
-        0
-    };
-    for i in row.first..row.end {
-        let share = at(prices.share.as_slice(), i);
-        if share > 0 {
-            sum = sum.saturating_add(share);
-            slope = slope.saturating_add(1);
-        }
-    }
-    Level { sum, slope }
-}
-
 fn squared(x: u64) -> u64 {
     x.saturating_mul(x)
 }
@@ -90,55 +63,6 @@ fn difference(x: u64, y: u64) -> u64 {
 
 fn moved_by(amount: u64, step: Step) -> u64 {
     amount.saturating_mul(step.by) / step.of.max(1)
-}
-
-// Raises the price and the shares of a row by what was asked for.
-fn raise(wanted: &Wanted, prices: &mut Prices, row: Row, step: Step) {
-    let by_minute = Step {
-        by: step.by,
-        of: step.of.saturating_mul(HOUR),
-    };
-    let more = moved_by(at(wanted.hours.as_slice(), row.place), by_minute);
-    let price = at(prices.theatre.as_slice(), row.place).saturating_add(more);
-    put(
-        prices.theatre.as_mut_slice(),
-        row.place,
-        price.min(MOST_FOR_MINUTE),
-    );
-    for i in row.first..row.end {
-        let asked = at(wanted.shares.as_slice(), i);
-        if asked > 0 {
-            let share = at(prices.share.as_slice(), i).saturating_add(moved_by(asked, step));
-            put(prices.share.as_mut_slice(), i, share.min(MOST_FOR_SHARE));
-        }
-    }
-}
-
-// Lets the shares of a row fall by so much, and its price as its hours go.
-fn lower(prices: &mut Prices, row: Row, by: u64) {
-    let less = by.saturating_mul(row.minutes).div_ceil(HOUR * HOUR);
-    let price = at(prices.theatre.as_slice(), row.place).saturating_sub(less);
-    put(prices.theatre.as_mut_slice(), row.place, price);
-    for i in row.first..row.end {
-        let share = at(prices.share.as_slice(), i);
-        if share > 0 {
-            put(prices.share.as_mut_slice(), i, share.saturating_sub(by));
-        }
-    }
-}
-
-// Lets a row fall to what it is worth to open the theatre, and by no more than if all that there is had been asked for.
-fn lower_to(prices: &mut Prices, row: Row, worth: u64, most: u64) {
-    let mut left = most;
-    for pass in 0..PASSES {
-        let now = level_of(prices, row);
-        if now.sum <= worth || left == 0 {
-            return;
-        }
-        let by = ((now.sum - worth) / now.slope.max(1)).max(1).min(left);
-        lower(prices, row, by);
-        left = left.saturating_sub(by);
-    }
 }
 
 /// Prices to begin with: only theatres have one, by what it is worth to open them.
@@ -163,37 +87,156 @@ impl Wanted {
             hours: zeros(alloc, days * inst.theatres() as usize)?,
             shares: zeros(alloc, shares)?,
             rounds: 0,
+            live: zeros(alloc, shares)?,
+            begins: zeros(alloc, days * inst.theatres() as usize + 1)?,
         })
     }
 
     /// Drops what the last rounds asked for.
     pub fn forget(&mut self) {
-        fade(self.hours.as_mut_slice(), 0);
-        fade(self.shares.as_mut_slice(), 0);
+        clear(self.hours.as_mut_slice());
+        clear(self.shares.as_mut_slice());
         self.rounds = 0;
     }
 
-    /// Adds what a round asks for. What was asked for before counts less.
-    pub fn turn(&mut self, inst: &Instance, demand: &Demand) {
-        fade(self.hours.as_mut_slice(), 3);
-        fade(self.shares.as_mut_slice(), 3);
+    // Lets what was asked for before count less: three quarters of it.
+    fn fade(&mut self) {
+        for x in self.hours.as_mut_slice().iter_mut() {
+            *x = x.saturating_mul(3) / 4;
+        }
+        let rows = self.begins.len().saturating_sub(1);
+        for i in 0..at(self.begins.as_slice(), rows) as usize {
+            let place = self.live_at(i);
+            let old = at(self.shares.as_slice(), place);
+            put(self.shares.as_mut_slice(), place, old.saturating_mul(3) / 4);
+        }
         self.rounds = self.rounds.saturating_mul(3) / 4;
+    }
+
+    // Finds the live places of all rows.
+    fn find_live(&mut self, inst: &Instance, prices: &Prices) {
+        let mut count: usize = 0;
+        let mut i: usize = 0;
+        for row in 0..self.begins.len() {
+            put(self.begins.as_mut_slice(), row, count as u64);
+            let end = i
+                .saturating_add(inst.patients() as usize)
+                .min(self.shares.len());
+            for place in i..end {
+                if at(self.shares.as_slice(), place) > 0 || at(prices.share.as_slice(), place) > 0 {
+                    put(self.live.as_mut_slice(), count, place as u64);
+                    count = count.saturating_add(1);
+                }
+            }
+            i = end;
+        }
+    }
+
+    /// Adds what a round asks for. What was asked for before counts less.
+    pub fn turn(&mut self, inst: &Instance, demand: &Demand, prices: &Prices) {
+        self.fade();
         self.rounds = self.rounds.saturating_add(ONE);
         let asked = demand.amounts.theatre.as_slice();
         for i in 0..asked.len() {
-            add(
-                self.hours.as_mut_slice(),
-                i,
-                at(asked, i).saturating_mul(ONE) / HOUR,
-            );
+            let hours = asked[i].saturating_mul(ONE) / HOUR;
+            add(self.hours.as_mut_slice(), i, hours);
         }
         let chosen = demand.chosen.as_slice();
         for p in 0..chosen.len() {
-            let after = at(chosen, p) as usize;
+            let after = chosen[p] as usize;
             if after > 0 {
                 let row = (after - 1).saturating_mul(inst.patients() as usize);
                 add(self.shares.as_mut_slice(), row.saturating_add(p), ONE);
             }
+        }
+        self.find_live(inst, prices);
+    }
+
+    fn row_of(&self, inst: &Instance, theatre: u32, day: u32) -> Row
+        requires { theatre < theatre_count inst.now.draft }
+    {
+        let row = place(inst.days(), theatre, day);
+        Row {
+            place: row,
+            minutes: limit_of(inst, Resource::OfTheatre(TheatreNo(theatre)), day),
+            first: at(self.begins.as_slice(), row) as usize,
+            end: at(self.begins.as_slice(), row.saturating_add(1)) as usize,
+        }
+    }
+
+    // The place that stands so far in the list of live places.
+    #[inline(always)]
+    fn live_at(&self, index: usize) -> usize {
+        at(self.live.as_slice(), index) as usize
+    }
+
+    fn level_of(&self, prices: &Prices, row: Row) -> Level {
+        let price = at(prices.theatre.as_slice(), row.place);
+        let mut sum = price.saturating_mul(row.minutes);
+        let mut slope = if price > 0 {
+            squared(row.minutes) / (HOUR * HOUR)
+        } else {
+            0
+        };
+        for i in row.first..row.end {
+            let share = at(prices.share.as_slice(), self.live_at(i));
+            if share > 0 {
+                sum = sum.saturating_add(share);
+                slope = slope.saturating_add(1);
+            }
+        }
+        Level { sum, slope }
+    }
+
+    // Raises the price and the shares of a row by what was asked for.
+    fn raise(&self, prices: &mut Prices, row: Row, step: Step) {
+        let by_minute = Step {
+            by: step.by,
+            of: step.of.saturating_mul(HOUR),
+        };
+        let more = moved_by(at(self.hours.as_slice(), row.place), by_minute);
+        let price = at(prices.theatre.as_slice(), row.place).saturating_add(more);
+        put(
+            prices.theatre.as_mut_slice(),
+            row.place,
+            price.min(MOST_FOR_MINUTE),
+        );
+        for i in row.first..row.end {
+            let place = self.live_at(i);
+            let more = moved_by(at(self.shares.as_slice(), place), step);
+            let share = at(prices.share.as_slice(), place).saturating_add(more);
+            put(
+                prices.share.as_mut_slice(),
+                place,
+                share.min(MOST_FOR_SHARE),
+            );
+        }
+    }
+
+    // Lets the shares of a row fall by so much, and its price as its hours go.
+    fn lower(&self, prices: &mut Prices, row: Row, by: u64) {
+        let less = by.saturating_mul(row.minutes).div_ceil(HOUR * HOUR);
+        let price = at(prices.theatre.as_slice(), row.place).saturating_sub(less);
+        put(prices.theatre.as_mut_slice(), row.place, price);
+        for i in row.first..row.end {
+            let place = self.live_at(i);
+            let share = at(prices.share.as_slice(), place).saturating_sub(by);
+            put(prices.share.as_mut_slice(), place, share);
+        }
+    }
+
+    // Lets a row fall to what it is worth to open the theatre, and by no more than if all that there is had been asked
+    // for.
+    fn lower_to(&self, prices: &mut Prices, row: Row, worth: u64, most: u64) {
+        let mut left = most;
+        for pass in 0..PASSES {
+            let now = self.level_of(prices, row);
+            if now.sum <= worth || left == 0 {
+                return;
+            }
+            let by = ((now.sum - worth) / now.slope.max(1)).max(1).min(left);
+            self.lower(prices, row, by);
+            left = left.saturating_sub(by);
         }
     }
 
@@ -204,14 +247,12 @@ impl Wanted {
         let supply = self.rounds.saturating_mul(row.minutes) / HOUR;
         let worth = rates.theatre.saturating_add(LITTLE);
         let mut sum = 0;
-        if asked > supply || level_of(prices, row).sum > worth {
+        if asked > supply || self.level_of(prices, row).sum > worth {
             sum = squared(difference(asked, supply));
         }
         for i in row.first..row.end {
-            let share = at(self.shares.as_slice(), i);
-            if share > 0 {
-                sum = sum.saturating_add(squared(share) / 4);
-            }
+            let share = at(self.shares.as_slice(), self.live_at(i));
+            sum = sum.saturating_add(squared(share) / 4);
         }
         sum
     }
@@ -221,7 +262,7 @@ impl Wanted {
         let mut sum: u64 = 0;
         for t in 0..inst.theatres() {
             for d in 0..inst.days() {
-                let row = row_of(inst, self.shares.len(), t, d);
+                let row = self.row_of(inst, t, d);
                 sum = sum.saturating_add(self.size_of(rates, prices, row));
             }
         }
@@ -233,23 +274,10 @@ impl Wanted {
         let most = moved_by(self.rounds, step);
         for t in 0..inst.theatres() {
             for d in 0..inst.days() {
-                let row = row_of(inst, self.shares.len(), t, d);
-                raise(self, prices, row, step);
-                lower_to(prices, row, rates.theatre, most);
+                let row = self.row_of(inst, t, d);
+                self.raise(prices, row, step);
+                self.lower_to(prices, row, rates.theatre, most);
             }
         }
-    }
-}
-
-// Leaves so many quarters of each number.
-fn fade(list: &mut [u64], quarters: u64) {
-    for x in list.iter_mut() {
-        *x = x.saturating_mul(quarters) / 4;
-    }
-}
-
-fn add(list: &mut [u64], index: usize, by: u64) {
-    if let Some(x) = list.get_mut(index) {
-        *x = x.saturating_add(by);
     }
 }
