@@ -111,13 +111,15 @@ struct RoughPlace {
     cost: i64,
 }
 
-// A placement of the patient from a day on, by random words, in the one of the first rooms that fit which has the fewest nurses.
+// A placement of the patient from a day on, by random words, in the one of the first rooms that fit which has the fewest
+// nurses. None where it costs `most` or more.
 fn rough_place_on(
     here: &Situation<'_>,
     words: &mut RandomWords,
     patient: PatientNo,
     day: Day,
     attempt: &Chain,
+    most: i64,
 ) -> Option<RoughPlace>
     requires patient { patient.0 < patient_count here.now.inst.now.draft }
     requires day { day.0 < here.now.inst.now.draft.days }
@@ -130,6 +132,13 @@ fn rough_place_on(
     }
     let first = words.below(inst.rooms());
     let choice = room_of_fewest_nurses(here, patient, day, first, attempt)?;
+    let weights = &inst.weights().w;
+    let delay = day
+        .0
+        .saturating_sub(inst.patient(patient).surgery_release_day);
+    let stay_cost = weights[6]
+        .saturating_mul(i64::from(delay))
+        .saturating_add(weights[2].saturating_mul(i64::from(choice.carers)));
     let PricedPlace { at, surgery_cost } = place_in(
         here,
         words,
@@ -137,15 +146,12 @@ fn rough_place_on(
         day,
         choice.room,
         attempt,
+        most.saturating_sub(stay_cost),
     )?;
-    let weights = &inst.weights().w;
-    let delay = day
-        .0
-        .saturating_sub(inst.patient(patient).surgery_release_day);
-    let cost = surgery_cost
-        .saturating_add(weights[6].saturating_mul(i64::from(delay)))
-        .saturating_add(weights[2].saturating_mul(i64::from(choice.carers)));
-    Some(RoughPlace { at, cost })
+    Some(RoughPlace {
+        at,
+        cost: surgery_cost.saturating_add(stay_cost),
+    })
 }
 
 /// The cheapest of a few placements of the patient: on each of four days in a row one in a room that fits, beside those
@@ -165,7 +171,7 @@ pub fn cheapest_place(
     let mut least = i64::MAX;
     for i in 0..DAYS {
         if let Some(day) = day_of_window(here.inst, patient, first.saturating_add(i)) {
-            if let Some(place) = rough_place_on(here, words, patient, day, attempt) {
+            if let Some(place) = rough_place_on(here, words, patient, day, attempt, least) {
                 if place.cost < least {
                     least = place.cost;
                     best = Some(place.at);

@@ -11,6 +11,7 @@ use crate::situation::Situation;
 use crate::stays::cyclic;
 use crate::words::RandomWords;
 use ih_plan::{Move, Write};
+use ih_tables::bill_numbers::UNCOVERED_ROOM;
 use ih_tables::{NurseNo, RoomNo, Shift};
 
 /// What the nurse would add to the score in a shift of a room; the greatest number where the room has the nurse already.
@@ -27,6 +28,17 @@ pub fn value_of(here: &Situation<'_>, room: RoomNo, shift: Shift, nurse: NurseNo
             .ledgers
             .price_write(&Write::SetCare(room, shift, Some(nurse))),
     )
+}
+
+/// What it would add to the score if the room's nurse left a shift and nobody missed one there. It takes away all that
+/// the nurse costs, so any other who works the shift adds as much or more.
+pub fn value_of_nobody(here: &Situation<'_>, room: RoomNo, shift: Shift) -> i64
+    requires room { room.0 < room_count here.now.inst.now.draft }
+    requires shift { shift.0 < shift_count here.now.inst.now.draft }
+{
+    let mut change = here.ledgers.price_write(&Write::SetCare(room, shift, None));
+    change.v[UNCOVERED_ROOM] = 0;
+    here.score_of_care(&change)
 }
 
 // The nurse, other than the one there, who adds least to the score: the first of equal ones, cyclically from a random

@@ -5,7 +5,7 @@ ghost use Rattle.ih_tables.specs.Sizes.{nurse_count, shift_count};
 ghost use Rattle.ih_plan.specs.{Series.AreMoves};
 ghost use Rattle.ih_proposals.specs.NewStays.{IsNewStay};
 
-use crate::cheapest_nurse::value_of;
+use crate::cheapest_nurse::{value_of, value_of_nobody};
 use crate::new_stays::{Carers, NewStay, carers_of, cost_of_nurse, new_stay};
 use crate::nurses::{count_working, working_at};
 use crate::situation::Situation;
@@ -93,7 +93,8 @@ impl Reliefs {
 }
 
 // The relief in a shift of the stay that gains most, for those who are there and for the patient, where there is one:
-// of equal ones the first, cyclically from a random nurse on.
+// of equal ones the first, cyclically from a random nurse on. A nurse isn't priced who costs the patient more than those
+// there can gain.
 fn best_relief(
     here: &Situation<'_>,
     words: &mut RandomWords,
@@ -111,21 +112,23 @@ fn best_relief(
     }
     let first = words.below(count);
     let room = stay.at.room;
+    let nobody = value_of_nobody(here, room, shift);
     let mut best = None;
     let mut least = own_cost;
     for i in 0..count {
         let nurse = working_at(here.inst, shift, cyclic(first, i, count) as usize);
-        let value = value_of(here, room, shift, nurse).saturating_add(cost_of_nurse(
-            here, stay, shift, marks, nurse,
-        ));
-        if value < least {
-            least = value;
-            best = Some(Relief {
-                room,
-                shift,
-                nurse,
-                gain: own_cost.saturating_sub(value),
-            });
+        let of_patient = cost_of_nurse(here, stay, shift, marks, nurse);
+        if nobody.saturating_add(of_patient) < least {
+            let value = value_of(here, room, shift, nurse).saturating_add(of_patient);
+            if value < least {
+                least = value;
+                best = Some(Relief {
+                    room,
+                    shift,
+                    nurse,
+                    gain: own_cost.saturating_sub(value),
+                });
+            }
         }
     }
     best

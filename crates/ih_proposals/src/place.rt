@@ -28,7 +28,7 @@ fn is_better_out(inst: &Instance, patient: PatientNo, surgery_cost: i64) -> bool
 }
 
 /// A placement of the patient in a room from a day on, in the theatre that is cheapest there, once the attempt is made.
-/// None where the patient would better stay out.
+/// None where the patient would better stay out, or where surgery at no cost is too dear: it has to cost less than `most`.
 pub fn place_in(
     here: &Situation<'_>,
     words: &mut RandomWords,
@@ -36,6 +36,7 @@ pub fn place_in(
     day: Day,
     room: RoomNo,
     attempt: &Chain,
+    most: i64,
 ) -> Option<PricedPlace>
     requires patient { patient.0 < patient_count here.now.inst.now.draft }
     requires day { day.0 < here.now.inst.now.draft.days }
@@ -45,6 +46,9 @@ pub fn place_in(
     ensures { IfSome result (λ place. IsPlacement here.now.inst.now.draft place.at) }
 {
     let first = words.below(here.inst.theatres());
+    if most <= 0 {
+        return None;
+    }
     let surgery = cheapest_surgery(here, patient, day, first, attempt);
     if is_better_out(here.inst, patient, surgery.cost) {
         return None;
@@ -76,7 +80,7 @@ fn find_place_on(
     let first = words.below(here.inst.rooms());
     let mut rooms = Fitting::new(here, patient, day, first, attempt);
     let room = rooms.next(here, patient, day, attempt)?;
-    place_in(here, words, patient, day, room, attempt)
+    place_in(here, words, patient, day, room, attempt, i64::MAX)
 }
 
 /// Another placement of the patient, by random words: on the first of so many days of its window that has one.
