@@ -62,15 +62,41 @@ fn beds_beside(
     left
 }
 
-// So many of those in the room may be gone at most once the attempt is made: two by each of its moves, and the patient.
-fn most_gone(here: &Situation<'_>, patient: PatientNo, room: RoomNo, attempt: &Chain) -> u32
+// Whether the patient's stay has the room.
+fn has_room(here: &Situation<'_>, patient: PatientNo, room: RoomNo) -> bool
     requires { patient.0 < patient_count here.now.inst.now.draft }
 {
-    let own = match here.stay(patient) {
-        Some(at) if at.room == room => 1,
-        _ => 0,
-    };
-    (attempt.len() as u32).saturating_mul(2).saturating_add(own)
+    match here.stay(patient) {
+        None => false,
+        Some(at) => at.room == room,
+    }
+}
+
+// Whether the move is of a patient whose stay has the room.
+fn is_from(here: &Situation<'_>, mv: Move, room: RoomNo) -> bool
+    requires { IsMoveOf here.now.inst.now.draft mv }
+{
+    match mv {
+        Move::Place(p, _) | Move::Withdraw(p) | Move::SetRoom(p, _) => has_room(here, p, room),
+        _ => false,
+    }
+}
+
+// So many of those in the room may be gone at most once the attempt is made: those whom it moves, and the patient.
+fn most_gone(here: &Situation<'_>, patient: PatientNo, room: RoomNo, attempt: &Chain) -> u32
+    requires patient { patient.0 < patient_count here.now.inst.now.draft }
+    requires moves { AreMoves here.now.inst.now.draft attempt.now }
+{
+    let mut gone: u32 = 0;
+    if has_room(here, patient, room) {
+        gone = 1;
+    }
+    for i in 0..attempt.len() {
+        if is_from(here, attempt.at(here.inst, i), room) {
+            gone = gone.saturating_add(1);
+        }
+    }
+    gone
 }
 
 // Whether the room has a bed for the patient on the day once the attempt is made, which moves the patient too or
