@@ -1,5 +1,4 @@
 pub mod ChangeLaws
 pub mod FindingSums
 pub mod Inertness
-pub mod Lines
 pub mod WholeNumbers

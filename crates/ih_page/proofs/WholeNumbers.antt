@@ -10,10 +10,10 @@ use Rattle.ih_tables.specs.declared.drafts.Draft.{Draft}
 use Rattle.ih_plan.specs.Timetable.{Timetable}
 use Rattle.ih_page.specs.Changes.{changes_data, room_data as room_changes}
 use Rattle.ih_page.specs.Findings.{findings_data, line_data}
-use Rattle.ih_page.specs.InstanceData.{instance_data, person_data, persons_data, places_data, staff_data, window_data}
+use Rattle.ih_values.specs.InstanceData.{instance_data, person_data, persons_data, places_data, staff_data, window_data}
 use Rattle.ih_page.specs.Page.{HeadingTexts, heading_data, page_data, plan_data}
 use Rattle.ih_page.specs.TimetableData.{bill_data, room_data as room_care}
-use Rattle.ih_page.specs.Values.{option_data}
+use Rattle.ih_values.specs.Values.{option_data}
 use Rattle.ih_page.specs.Waits.{admission_data, wait_data}
 
 -- ---- what has no float, if its parts have none

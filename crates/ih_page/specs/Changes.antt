@@ -11,7 +11,7 @@ use Rattle.ih_plan.specs.Timetable.{Timetable, stay_of, care_of}
 use Rattle.ih_changes.specs.Changes.{has_another, is_changed}
 use Rattle.ih_solution.specs.Solution.{number_data, list_data}
 use Rattle.ih_page.specs.TimetableData.{bill_data, place_data}
-use Rattle.ih_page.specs.Values.{numbered_data, option_data}
+use Rattle.ih_values.specs.Values.{numbered_data, option_data}
 
 -- ---- patients
 

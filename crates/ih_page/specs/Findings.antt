@@ -16,7 +16,7 @@ use Rattle.ih_solution.specs.Solution.{list_data}
 use Rattle.ih_page.specs.declared.findings.Line.{Line}
 use Rattle.ih_page.specs.declared.findings.Line.TheVariants.{Rule, Cost}
 use Rattle.ih_page.specs.declared.findings.Spot.{Spot}
-use Rattle.ih_page.specs.Values.{numbers_data}
+use Rattle.ih_values.specs.Values.{numbers_data}
 
 -- it is one of the nine rules or of the eight costs
 abbrev pub IsLine : Line → Type 0

@@ -8,7 +8,7 @@ use Rattle.ih_plan.specs.BillOf.{bill_of}
 use Rattle.ih_plan.specs.Sums.{is_listed}
 use Rattle.ih_plan.specs.Timetable.{Timetable, care_of, stay_of}
 use Rattle.ih_page.specs.declared.findings.Line.{Line}
-use Rattle.ih_page.specs.declared.template.TheConstants.{HEAD, TAIL}
+use Rattle.ih_template.specs.declared.template.TheConstants.{HEAD, TAIL}
 use Rattle.ih_page.specs.Changes.{changed_patients, changed_shifts}
 use Rattle.ih_page.specs.Findings.{IsLine, amount_at, findings_of, number_in}
 use Rattle.ih_page.specs.Page.{HeadingTexts, page_of}

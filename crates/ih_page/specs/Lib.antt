@@ -1,10 +1,6 @@
-pub mod Values
-pub mod InstanceData
 pub mod TimetableData
 pub mod Findings
 pub mod Changes
 pub mod Waits
-pub mod Escapes
 pub mod Page
 pub mod Laws
-pub mod Objects

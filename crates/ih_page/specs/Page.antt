@@ -1,5 +1,5 @@
 -- The page of a timetable: one JSON value, in a template that draws it.
-use Rattle.std.specs.Prelude.{ℕ, List, [], ◌∷◌, ◌++◌, Option, codes, option_map, unsigned_abs}
+use Rattle.std.specs.Prelude.{ℕ, List, [], ◌∷◌, Option, codes, option_map, unsigned_abs}
 use Rattle.serde_json.specs.Data.{Data, string, object, no_members, member}
 use Rattle.serde_json.specs.Written.{compact_text}
 use Rattle.jiff.specs.Types.{Date}
@@ -8,13 +8,12 @@ use Rattle.ih_plan.specs.BillOf.{bill_of}
 use Rattle.ih_plan.specs.Timetable.{Timetable}
 use Rattle.ih_solution.specs.Solution.{list_data}
 use Rattle.ih_page.specs.declared.pages.Heading.{Heading}
-use Rattle.ih_page.specs.declared.template.TheConstants.{HEAD, TAIL}
 use Rattle.ih_page.specs.Changes.{changes_data}
-use Rattle.ih_page.specs.Escapes.{escaped}
+use Rattle.ih_template.specs.Filling.{in_template}
 use Rattle.ih_page.specs.Findings.{findings_data}
-use Rattle.ih_page.specs.InstanceData.{instance_data}
+use Rattle.ih_values.specs.InstanceData.{instance_data}
 use Rattle.ih_page.specs.TimetableData.{bill_data, care_data, stays_data}
-use Rattle.ih_page.specs.Values.{numbers_data, option_data}
+use Rattle.ih_values.specs.Values.{numbers_data, option_data}
 use Rattle.ih_page.specs.Waits.{waits_data}
 
 -- what stands over a page: its title, and the names of the files that it was made from
@@ -62,10 +61,6 @@ page_data h I first older P = object
     (member (codes "heading") (heading_data h)
     (member (codes "instance") (instance_data I)
     (member (codes "plan") (plan_data I P) no_members)))))))
-
--- a text of JSON in its place in the template
-abbrev pub in_template : List ℕ → List ℕ
-in_template text = HEAD.now ++ (escaped text ++ TAIL.now)
 
 -- the page: the data inside the template
 unfoldable pub page_of : HeadingTexts → Draft → Option Date → Option Timetable → Timetable → List ℕ

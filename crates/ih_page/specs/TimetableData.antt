@@ -10,7 +10,7 @@ use Rattle.ih_tables.specs.Sizes.{patient_count, room_count, shift_count}
 use Rattle.ih_plan.specs.declared.moves.Placement.{Placement}
 use Rattle.ih_plan.specs.Timetable.{Timetable, stay_of, care_of}
 use Rattle.ih_solution.specs.Solution.{number_data, list_data}
-use Rattle.ih_page.specs.Values.{amount_data, amounts_data, numbers_data, option_data}
+use Rattle.ih_values.specs.Values.{amount_data, amounts_data, numbers_data, option_data}
 
 -- the day, the room and the theatre
 abbrev pub place_data : Placement → Data

@@ -12,7 +12,7 @@ use Rattle.ih_plan.specs.Timetable.{Timetable, stay_of}
 use Rattle.ih_solution.specs.Solution.{number_data}
 use Rattle.ih_waiting.specs.Admissions.{broken_more, change_by, cheapest_admission}
 use Rattle.ih_page.specs.TimetableData.{place_data}
-use Rattle.ih_page.specs.Values.{numbered_data, option_data}
+use Rattle.ih_values.specs.Values.{numbered_data, option_data}
 
 -- where an admission puts a patient, how many units of rules more are broken, and what is added to the cost
 unfoldable pub admission_data : Draft → Placement → Bill → Data

@@ -7,12 +7,11 @@ ghost use Rattle.ih_plan.specs.Timetable.{IsPlanOf};
 ghost use Rattle.ih_solution.specs.Solution.{list_data};
 ghost use Rattle.ih_page.specs.Changes.{changes_data, patients_data, room_data, rooms_data};
 
-use crate::objects::Object;
 use crate::timetables::{bill_value, nurse_value, stay_value};
-use crate::values::{Made, listed_value, numbered_value};
 use ih_changes::{has_another, is_changed};
 use ih_plan::Plan;
 use ih_tables::{Instance, PatientNo, RoomNo, Shift};
+use ih_values::{Made, Object, listed_value, numbered_value};
 use serde_json::Value;
 use std::alloc::Global;
 

@@ -8,11 +8,10 @@ ghost use Rattle.ih_solution.specs.Solution.{list_data};
 ghost use Rattle.ih_page.specs.Findings.{IsLine, costs_data, count_in, finding_data, findings_data, line_data, number_in};
 ghost use Rattle.ih_page.specs.Findings.{rules_data, spot_of};
 
-use crate::objects::Object;
-use crate::values::{Made, list_value, listed_value};
 use ih_costs::Ledgers;
 use ih_footprint::Numbering;
 use ih_tables::{Bill, Cell};
+use ih_values::{Made, Object, list_value, listed_value};
 use serde_json::Value;
 use std::alloc::Global;
 

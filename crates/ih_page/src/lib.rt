@@ -2,15 +2,10 @@
 #![tactic(auto)]
 
 mod changes;
-mod escapes;
 mod findings;
-mod instances;
 mod laws;
-mod objects;
 mod pages;
-mod template;
 mod timetables;
-mod values;
 mod waits;
 
 pub use laws::{changes_are_listed, data_is_inert, findings_sum};

@@ -1,25 +1,23 @@
 //! The page of a timetable.
 
-ghost use Rattle.std.specs.Prelude.{◌≡◌, ◌++◌, OnOk, IfOk, IfSome, false, option_map};
-ghost use Rattle.serde_json.specs.{Data.string, View.view, Written.compact_text, Written.has_float};
+ghost use Rattle.std.specs.Prelude.{◌≡◌, IfOk, IfSome, option_map};
+ghost use Rattle.serde_json.specs.{Data.string, View.view};
 ghost use Rattle.ih_plan.specs.Timetable.{IsPlanOf};
 ghost use Rattle.ih_page.specs.Changes.{changes_data};
 ghost use Rattle.ih_page.specs.Findings.{findings_data};
-ghost use Rattle.ih_page.specs.Page.{date_data, heading_data, heading_texts, in_template, page_data, page_of, plan_data};
-ghost use Rattle.ih_page.specs.Values.{option_data};
+ghost use Rattle.ih_page.specs.Page.{date_data, heading_data, heading_texts, page_data, page_of, plan_data};
+ghost use Rattle.ih_values.specs.Values.{option_data};
 
 use crate::changes::{Compared, changes_value};
-use crate::escapes::{put, put_escaped};
 use crate::findings::findings_value;
-use crate::objects::Object;
-use crate::template::{HEAD, TAIL};
 use crate::timetables::{bill_value, care_value, stays_value};
-use crate::values::{Made, Shown, list_value};
 use crate::waits::waits_value;
 use ih_costs::Ledgers;
 use ih_footprint::Numbering;
 use ih_plan::Plan;
 use ih_tables::Instance;
+use ih_template::page_with;
+use ih_values::{Made, Object, Shown, list_value};
 use jiff::civil::Date;
 use serde_json::Value;
 use std::alloc::{AllocError, Global};
@@ -58,15 +56,23 @@ impl Shown for Heading<'_> {
     }
 }
 
-/// The year, the month and the day.
-impl Shown for Date {
-    ghost json = { date_data };
+// The year, the month and the day.
+fn date_value(alloc: Global, date: Date) -> Made
+    ensures { IfOk result (λ v. view v ≡ date_data date) }
+{
+    let year = u32::from(date.year().unsigned_abs());
+    let month = u32::from(date.month().unsigned_abs());
+    let day = u32::from(date.day().unsigned_abs());
+    list_value(alloc, &[year, month, day])
+}
 
-    fn value(&self, alloc: Global) -> Made {
-        let year = u32::from(self.year().unsigned_abs());
-        let month = u32::from(self.month().unsigned_abs());
-        let day = u32::from(self.day().unsigned_abs());
-        list_value(alloc, &[year, month, day])
+// The date of the first day, or null.
+fn first_value(alloc: Global, first: Option<Date>) -> Made
+    ensures { IfOk result (λ v. view v ≡ option_data date_data first) }
+{
+    match first {
+        None => Ok(Value::Null),
+        Some(date) => date_value(alloc, date),
     }
 }
 
@@ -124,31 +130,11 @@ fn page_value(
         .put("bill", bill_value(alloc, inst, plan))?
         .put("changes", changes_since(alloc, inst, plan, older))?
         .put("findings", found_value(alloc, inst, plan))?
-        .show("first", &first)?
+        .put("first", first_value(alloc, first))?
         .show("heading", heading)?
         .show("instance", &inst.draft)?
         .put("plan", plan_value(alloc, inst, plan))?
         .value()
-}
-
-// The template with a text of JSON in its place.
-fn put_page(out: &mut Vec<u8>, text: &[u8]) -> Made<()>
-    ensures { OnOk result (out.new.items ≡ out.old.items ++ in_template text.now) }
-{
-    put(out, HEAD)?;
-    put_escaped(out, text)?;
-    put(out, TAIL)
-}
-
-// The template with the text of data in its place.
-fn page_with(alloc: Global, data: &Value) -> Made<Vec<u8>>
-    requires { has_float (view data.now) ≡ false }
-    ensures { IfOk result (λ page. page.items ≡ in_template (compact_text (view data.now))) }
-{
-    let text = data.to_vec(alloc)?;
-    let mut out = Vec::new(alloc);
-    put_page(&mut out, text.as_slice())?;
-    Ok(out)
 }
 
 /// The page of a timetable of the instance: one text of HTML that stands alone.

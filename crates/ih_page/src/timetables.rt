@@ -7,23 +7,20 @@ ghost use Rattle.ih_plan.specs.Timetable.{IsPlanOf, care_of, stay_of};
 ghost use Rattle.ih_plan.specs.BillOf.{bill_of};
 ghost use Rattle.ih_solution.specs.Solution.{list_data, number_data};
 ghost use Rattle.ih_page.specs.TimetableData.{bill_data, care_data, place_data, room_data, stays_data};
-ghost use Rattle.ih_page.specs.Values.{option_data};
+ghost use Rattle.ih_values.specs.Values.{option_data};
 
-use crate::objects::Object;
-use crate::values::{Made, Shown, list_value, listed_value};
 use ih_plan::{Placement, Plan};
 use ih_tables::{Bill, Instance, PatientNo, RoomNo, Shift};
 use ih_validate::bill;
+use ih_values::{Made, Object, list_value, listed_value};
 use serde_json::Value;
 use std::alloc::Global;
 
 /// The day, the room and the theatre.
-impl Shown for Placement {
-    ghost json = { place_data };
-
-    fn value(&self, alloc: Global) -> Made {
-        list_value(alloc, &[self.day.0, self.room.0, self.theatre.0])
-    }
+pub fn place_value(alloc: Global, place: Placement) -> Made
+    ensures { IfOk result (λ v. view v ≡ place_data place) }
+{
+    list_value(alloc, &[place.day.0, place.room.0, place.theatre.0])
 }
 
 /// The stay of a patient, or null.
@@ -33,7 +30,7 @@ pub fn stay_value(alloc: Global, plan: &Plan, patient: PatientNo) -> Made
 {
     match plan.stay(patient) {
         None => Ok(Value::Null),
-        Some(place) => place.value(alloc),
+        Some(place) => place_value(alloc, place),
     }
 }
 

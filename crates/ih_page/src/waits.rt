@@ -8,11 +8,11 @@ ghost use Rattle.ih_solution.specs.Solution.{list_data};
 ghost use Rattle.ih_waiting.specs.ScorerUse.{IsForAdmissions};
 ghost use Rattle.ih_page.specs.Waits.{admission_data, could_data, wait_data, waits_data};
 
-use crate::objects::Object;
-use crate::values::{Made, numbered_value};
+use crate::timetables::place_value;
 use ih_fill::Scorer;
 use ih_plan::{MAX_HARD, Placement, Plan};
 use ih_tables::{Bill, Instance, PatientNo};
+use ih_values::{Made, Object, numbered_value};
 use ih_waiting::{broken_more, change_by, cheapest_admission};
 use serde_json::Value;
 use std::alloc::Global;
@@ -26,7 +26,7 @@ fn admission_value(alloc: Global, inst: &Instance, place: Placement, change: &Bi
     Object::new(alloc)
         .put("broken", Ok(Value::from(broken_more(change))))?
         .put("cost", Ok(Value::from(change.cost(inst.weights()))))?
-        .show("place", &place)?
+        .put("place", place_value(alloc, place))?
         .value()
 }
 

@@ -1,12 +1,12 @@
 //! JSON inside an element of HTML.
 
 ghost use Rattle.std.specs.Prelude.{◌≡◌, ◌<◌, ◌++◌, length, slice_index, OnOk};
-ghost use Rattle.ih_page.specs.Escapes.{escaped, escaped_at, escaped_byte, is_separator, is_within, separator_name};
+ghost use Rattle.ih_template.specs.Escapes.{escaped, escaped_at, escaped_byte, is_separator, is_within, separator_name};
 
-use crate::values::Made;
+use std::alloc::AllocError;
 
 /// Appends a text.
-pub fn put(out: &mut Vec<u8>, text: &str) -> Made<()>
+pub fn put(out: &mut Vec<u8>, text: &str) -> Result<(), AllocError>
     ensures { OnOk result (out.new.items ≡ out.old.items ++ text.now) }
 {
     out.extend_from_slice(text.as_bytes())
@@ -37,7 +37,7 @@ fn is_within(text: &[u8], place: usize) -> bool
     is_separator(text, place.saturating_sub(1)) || is_separator(text, place.saturating_sub(2))
 }
 
-fn put_byte(out: &mut Vec<u8>, byte: u8) -> Made<()>
+fn put_byte(out: &mut Vec<u8>, byte: u8) -> Result<(), AllocError>
     ensures { OnOk result (out.new.items ≡ out.old.items ++ escaped_byte byte) }
 {
     match byte {
@@ -51,7 +51,7 @@ fn put_byte(out: &mut Vec<u8>, byte: u8) -> Made<()>
     }
 }
 
-fn put_separator(out: &mut Vec<u8>, last: u8) -> Made<()>
+fn put_separator(out: &mut Vec<u8>, last: u8) -> Result<(), AllocError>
     ensures { OnOk result (out.new.items ≡ out.old.items ++ separator_name last) }
 {
     if last == 168 {
@@ -62,7 +62,7 @@ fn put_separator(out: &mut Vec<u8>, last: u8) -> Made<()>
 }
 
 #[tactic(auto, unfolding(crate::specs::Escapes::escaped_at))]
-fn put_at(out: &mut Vec<u8>, text: &[u8], place: usize) -> Made<()>
+fn put_at(out: &mut Vec<u8>, text: &[u8], place: usize) -> Result<(), AllocError>
     requires { place < length text.now }
     ensures { OnOk result (out.new.items ≡ out.old.items ++ escaped_at text.now place) }
 {
@@ -77,7 +77,7 @@ fn put_at(out: &mut Vec<u8>, text: &[u8], place: usize) -> Made<()>
 
 /// Appends a text of JSON, escaped.
 #[tactic(auto, using(crate::proofs::Lines::put_steps))]
-pub fn put_escaped(out: &mut Vec<u8>, text: &[u8]) -> Made<()>
+pub fn put_escaped(out: &mut Vec<u8>, text: &[u8]) -> Result<(), AllocError>
     ensures { OnOk result (out.new.items ≡ out.old.items ++ escaped text.now) }
 {
     for i in 0..text.len() {

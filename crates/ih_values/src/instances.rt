@@ -2,9 +2,9 @@
 
 ghost use Rattle.std.specs.Prelude.{◌≡◌, IfOk};
 ghost use Rattle.serde_json.specs.View.{view};
-ghost use Rattle.ih_page.specs.InstanceData.{instance_data, nurse_data, occupant_data, patient_data, person_data};
-ghost use Rattle.ih_page.specs.InstanceData.{persons_data, places_data, room_data, staff_data, surgeon_data, theatre_data};
-ghost use Rattle.ih_page.specs.InstanceData.{window_data, worked_data};
+ghost use Rattle.ih_values.specs.InstanceData.{instance_data, nurse_data, occupant_data, patient_data, person_data};
+ghost use Rattle.ih_values.specs.InstanceData.{persons_data, places_data, room_data, staff_data, surgeon_data, theatre_data};
+ghost use Rattle.ih_values.specs.InstanceData.{window_data, worked_data};
 ghost use Rattle.ih_solution.specs.Solution.{number_data};
 
 use crate::objects::Object;

@@ -18,7 +18,7 @@ impl Object {
     ghost use Rattle.serde_json.specs.View.{view};
     ghost use Rattle.serde_json.specs.declared.value.Value.{Value};
     ghost use Rattle.ih_solution.specs.Solution.{list_data};
-    ghost use Rattle.ih_page.specs.Objects.{members};
+    ghost use Rattle.ih_values.specs.Objects.{members};
 
     /// Without members.
     pub fn new(alloc: Global) -> Object

@@ -11,7 +11,7 @@ use Rattle.ih_tables.specs.declared.drafts.Occupant.{Occupant}
 use Rattle.ih_tables.specs.declared.drafts.Patient.{Patient}
 use Rattle.ih_tables.specs.declared.ids.RoomNo.{RoomNo}
 use Rattle.ih_solution.specs.Solution.{number_data, list_data}
-use Rattle.ih_page.specs.Values.{numbers_data, amounts_data, option_data}
+use Rattle.ih_values.specs.Values.{numbers_data, amounts_data, option_data}
 
 -- ---- rooms, operating theatres, surgeons and nurses
 

@@ -4,7 +4,7 @@ ghost use Rattle.std.specs.Prelude.{◌≡◌, ◌<◌, IfOk, List as Items, ℕ
 ghost use Rattle.serde_json.specs.{Data.Data, Data.boolean, Data.string, View.view};
 ghost use Rattle.ih_tables.specs.Listed.{listed};
 ghost use Rattle.ih_solution.specs.Solution.{list_data, number_data};
-ghost use Rattle.ih_page.specs.Values.{amount_data, numbered_data, option_data};
+ghost use Rattle.ih_values.specs.Values.{amount_data, numbered_data, option_data};
 
 use ih_solution::listed_values;
 use ih_tables::Name;

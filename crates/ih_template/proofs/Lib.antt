@@ -1,0 +1,2 @@
+pub mod Inertness
+mod Lines
