@@ -1,3 +1,2 @@
-mod Desks
+mod NewReplicas
 mod TriedLists
-mod TwoSeats

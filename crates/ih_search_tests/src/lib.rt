@@ -1,4 +1,4 @@
-//! Tests of what workers share and keep for themselves: turns, the book, replicas and replays.
+//! Tests of what workers share and keep for themselves: the book, the desk and replicas.
 #![tactic(auto)]
 
 #[cfg(test)]

@@ -1,31 +1,27 @@
 //! What two workers do at a desk over a book, and what comes of it.
 //!
-//! The lines of a desk's scene stand in parts: what seat 1 does, then seat 0, then seat 1 again. A first part `works`
-//! has a worker with seat 0 make all its moves, before seat 1 looks. An entry stands as its line in the journal.
+//! The lines of a desk's scene stand in parts: what seat 1 does, then seat 0, then seat 1 again, each with a new replica.
+//! An entry stands as its line in the journal.
 
 ghost use Rattle.std.specs.Prelude.{◌≡◌, ℕ, ◌<◌, ◌≤◌, [], All, IsTrue, Some, drop, length, map, slice_index, take};
 ghost use Rattle.ih_plan.specs.Expand.{IsMoveOf};
 ghost use Rattle.ih_turn.specs.Seats.{history, number_of, turns_left};
 ghost use Rattle.ih_cellbook.specs.{BufferState.most_copied, Keeping.base_with, Laws.HasNoneBy, Offers.next_number};
-ghost use Rattle.ih_cellbook.specs.Replicas.{IsReplicaIn, IsReplicaOf};
+ghost use Rattle.ih_cellbook.specs.Replicas.{IsReplicaIn};
 ghost use Rattle.ih_desk.specs.{Desks.IsSeatAt, Desks.base_of, Desks.worker_count, Turns.HasLooked, Turns.MayLook};
-ghost use Rattle.ih_desk.specs.Workers.{enough_turns};
-ghost use Rattle.ih_search_tests.specs.NewSeats.{IsFollowed, IsNewSeat, StaysFollowed};
+ghost use Rattle.ih_search_tests.specs.Followed.{IsFollowed, StaysFollowed};
 ghost use Rattle.ih_search_tests.specs.Scenes.{IsGiven, IsOver};
 
 use crate::tests::rounds::may_come;
 use crate::tests::scenes::{Scene, is_at};
-use crate::tests::seats::{list_of, two_of};
-use crate::tests::words::{pair, word};
-use crate::tests::workers::works;
+use crate::tests::words::pair;
 use ih_cellbook::{Book, Buffer, Offer};
 use ih_desk::{Desk, DeskSeat};
-use ih_fixtures::cut;
+use ih_fixtures::{cut, list_of, two_of, word};
 use ih_journal::{Entry, Options, parse_line};
 use ih_snapshot::Replica;
 use std::alloc::Global;
 use std::sync::Wait;
-use std::thread::Threads;
 
 // Whether a look has shown all entries, and the offer's worker, which has this number, may offer this after them.
 fn may_offer(buffer: &Buffer, worker: u32, options: &Options, offer: &Offer) -> bool
@@ -242,6 +238,35 @@ fn closes_with_three<'a>(
     }
 }
 
+// What comes of a seat by the lines of a part, and whether each comes out so.
+fn act<'a, R: Wait>(
+    rt: &R,
+    alloc: Global,
+    scene: &Scene<'_>,
+    desk: &Desk<'a>,
+    seat: DeskSeat<'a, Entry>,
+    buffer: &mut Buffer,
+    lines: &str,
+) -> (DeskSeat<'a, Entry>, bool)
+    requires given { IsGiven scene.now.inst.now.draft scene.now.start.now scene.now.options }
+    requires base { base_of desk.now ≡ base_with scene.now.inst.now.draft scene.now.start.now scene.now.options 0 }
+    requires own { IsSeatAt desk.now seat }
+    ensures own { IsSeatAt desk.now result.0 }
+    ensures number { number_of result.0 ≡ number_of seat.entry }
+{
+    match Replica::new(
+        alloc,
+        scene.inst,
+        scene.start,
+        &scene.options,
+        0,
+        seat.number(),
+    ) {
+        Ok(mut replica) => step_all(rt, scene, desk, seat, &mut replica, buffer, lines),
+        Err(_) => (seat, false),
+    }
+}
+
 // Whether seat 1, seat 0 and seat 1 again do what the parts say, and leave three entries.
 fn take_turns<'a, R: Wait>(
     rt: &R,
@@ -250,107 +275,62 @@ fn take_turns<'a, R: Wait>(
     desk: Desk<'a>,
     left: DeskSeat<'a, Entry>,
     right: DeskSeat<'a, Entry>,
-    zero: &mut Replica<'_>,
-    one: &mut Replica<'_>,
     buffer: &mut Buffer,
-    acts: &str,
-) -> bool
-    requires left { (number_of left ≡ 0) × IsFollowed desk left zero.old }
-    requires right { (number_of right ≡ 1) × IsFollowed desk right one.old }
-    requires two { worker_count desk ≡ 2 }
-    requires over { IsOver scene.now.inst.now.draft scene.now.options (base_of desk) }
-{
-    let (first, acts) = cut(acts, "\n\n");
-    let (second, third) = cut(acts, "\n\n");
-    let (right, is_first) = step_all(rt, scene, &desk, right, one, buffer, first);
-    let (left, is_second) = step_all(rt, scene, &desk, left, zero, buffer, second);
-    let (right, is_third) = step_all(rt, scene, &desk, right, one, buffer, third);
-    closes_with_three(alloc, desk, left, right) && is_first && is_second && is_third
-}
-
-// Whether a worker with seat 0 makes its moves, and seat 1 then does what the lines say.
-fn work_beside<'a, R: Threads + Wait + Sync>(
-    rt: &R,
-    alloc: Global,
-    scene: &Scene<'a>,
-    desk: &Desk<'a>,
-    left: DeskSeat<'a, Entry>,
-    right: DeskSeat<'a, Entry>,
-    one: &mut Replica<'_>,
-    buffer: &mut Buffer,
-    lines: &str,
-) -> bool
-    requires given { IsGiven scene.now.inst.now.draft scene.now.start.now scene.now.options }
-    requires base { base_of desk.now ≡ base_with scene.now.inst.now.draft scene.now.start.now scene.now.options 0 }
-    requires left { IsNewSeat 32 desk.now left }
-    requires right { IsFollowed desk.now right one.old }
-    requires turns { enough_turns scene.now.options ≤ 32 }
-{
-    let works = works(rt, alloc, scene, desk, left);
-    let (_seat, is_so) = step_all(rt, scene, desk, right, one, buffer, lines);
-    works && is_so
-}
-
-// Whether the parts come out so at a desk with two seats.
-fn act_in_seats<'a, R: Threads + Wait + Sync>(
-    rt: &R,
-    alloc: Global,
-    scene: &Scene<'a>,
-    desk: Desk<'a>,
-    seats: Vec<DeskSeat<'a, Entry>>,
-    zero: &mut Replica<'_>,
-    one: &mut Replica<'_>,
-    buffer: &mut Buffer,
-    acts: &str,
+    parts: &str,
 ) -> bool
     requires given { IsGiven scene.now.inst.now.draft scene.now.start.now scene.now.options }
     requires base { base_of desk ≡ base_with scene.now.inst.now.draft scene.now.start.now scene.now.options 0 }
-    requires new { All (IsNewSeat 32 desk) seats.items }
-    requires numbers { (k : ℕ) → k < 2 → slice_index (map number_of seats.items) k ≡ k }
-    requires few { (scene.now.options.workers ≡ 2) × (enough_turns scene.now.options ≤ 32) }
-    requires replicas { IsReplicaOf (base_of desk) [] zero.old × IsReplicaOf (base_of desk) [] one.old }
+    requires own { (worker_count desk ≡ 2) × IsSeatAt desk left × IsSeatAt desk right }
+    requires numbers { (number_of left ≡ 0) × (number_of right ≡ 1) }
 {
-    let (first, lines) = cut(acts, "\n\n");
+    let (first, parts) = cut(parts, "\n\n");
+    let (second, third) = cut(parts, "\n\n");
+    let (right, is_first) = act(rt, alloc, scene, &desk, right, buffer, first);
+    let (left, is_second) = act(rt, alloc, scene, &desk, left, buffer, second);
+    let (right, is_third) = act(rt, alloc, scene, &desk, right, buffer, third);
+    closes_with_three(alloc, desk, left, right) && is_first && is_second && is_third
+}
+
+// Whether the parts come out so at a desk with two seats.
+fn act_in_seats<'a, R: Wait>(
+    rt: &R,
+    alloc: Global,
+    scene: &Scene<'_>,
+    desk: Desk<'a>,
+    seats: Vec<DeskSeat<'a, Entry>>,
+    buffer: &mut Buffer,
+    parts: &str,
+) -> bool
+    requires given { IsGiven scene.now.inst.now.draft scene.now.start.now scene.now.options }
+    requires base { base_of desk ≡ base_with scene.now.inst.now.draft scene.now.start.now scene.now.options 0 }
+    requires two { worker_count desk ≡ 2 }
+    requires own { All (IsSeatAt desk) seats.items }
+    requires numbers { (k : ℕ) → k < 2 → slice_index (map number_of seats.items) k ≡ k }
+{
     match two_of(seats) {
-        Some((left, right)) => {
-            if first == "works" {
-                work_beside(rt, alloc, scene, &desk, left, right, one, buffer, lines)
-            } else {
-                take_turns(rt, alloc, scene, desk, left, right, zero, one, buffer, acts)
-            }
-        }
+        Some((left, right)) => take_turns(rt, alloc, scene, desk, left, right, buffer, parts),
         None => false,
     }
 }
 
-// Whether there are two workers, each with two moves that it tries once.
-fn are_two_by_two(options: &Options) -> bool
-    ensures { IsTrue result → (options.now.workers ≡ 2) × (enough_turns options.now ≤ 32) }
-{
-    options.workers == 2 && options.moves == 2 && options.retries == 0
-}
-
-/// Whether the parts come out so at a desk over a new book, where no day is frozen.
-pub(crate) fn act_at_desk<'a, R: Threads + Wait + Sync>(
+/// Whether the parts come out so at a desk over a new book of two workers, where no day is frozen.
+pub(crate) fn act_at_desk<'a, R: Wait>(
     rt: &R,
     alloc: Global,
-    scene: &Scene<'a>,
+    scene: &Scene<'_>,
     book: Book<'a>,
-    zero: &mut Replica<'_>,
-    one: &mut Replica<'_>,
     buffer: &mut Buffer,
-    acts: &str,
+    parts: &str,
 ) -> bool
     requires given { IsGiven scene.now.inst.now.draft scene.now.start.now scene.now.options }
     requires base { book.base ≡ base_with scene.now.inst.now.draft scene.now.start.now scene.now.options 0 }
     requires empty { book.entries ≡ [] }
-    requires replicas { IsReplicaOf book.base [] zero.old × IsReplicaOf book.base [] one.old }
 {
-    if !are_two_by_two(&scene.options) {
+    if scene.options.workers != 2 {
         return false;
     }
     match Desk::open(alloc, book, 2, 32) {
-        Ok((desk, seats)) => act_in_seats(rt, alloc, scene, desk, seats, zero, one, buffer, acts),
+        Ok((desk, seats)) => act_in_seats(rt, alloc, scene, desk, seats, buffer, parts),
         Err(_) => false,
     }
 }

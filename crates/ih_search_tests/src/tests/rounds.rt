@@ -6,7 +6,6 @@ ghost use Rattle.ih_plan.specs.Expand.{IsMoveOf};
 ghost use Rattle.ih_journal.specs.Attempts.{try_after, is_done_after, is_retried, last_by};
 ghost use Rattle.ih_journal.specs.Tried.{tried, tries};
 ghost use Rattle.ih_cellbook.specs.{Laws.HasNoneBy, Offers.next_number, Replicas.IsReplicaIn};
-ghost use Rattle.ih_search_tests.specs.Scenes.{StayIn};
 
 use crate::tests::words::are_reads;
 use ih_cellbook::{Book, Buffer, News, Offer};
@@ -89,7 +88,6 @@ pub(crate) fn offer(
     requires move_in { IsMoveOf book.old.base.instance mv.now }
     ensures base { book.new.base ≡ book.old.base }
     ensures replica { IsReplicaIn book.old.base book.new.entries replica.new }
-    ensures others { StayIn book.old.base book.old.entries book.new.entries }
 {
     let offer = replica.offer(mv, attempt_no);
     if may_come(book.entries(), options, offer) {

@@ -1,17 +1,18 @@
-//! What two workers do over one book, line by line, and what comes of it.
+//! What workers do over one book, one after the other, and what comes of it.
 //!
-//! Each line has a worker's number, or `book`, then what is done or told, and then what comes of it. An entry stands as
-//! its line in the journal.
+//! A part begins with a worker's number, whose replica is made new. Each further line has what is done or told, and then
+//! what comes of it. An entry stands as its line in the journal.
 
 ghost use Rattle.std.specs.Prelude.{◌≡◌};
 ghost use Rattle.ih_plan.specs.Timetable.{IsPlanOf};
-ghost use Rattle.ih_cellbook.specs.Replicas.{IsReplicaIn};
-ghost use Rattle.ih_search_tests.specs.Scenes.{IsOver, StayIn};
+ghost use Rattle.ih_cellbook.specs.{Keeping.base_with, Replicas.IsReplicaIn};
+ghost use Rattle.ih_search_tests.specs.Scenes.{IsGiven, IsOver};
 
 use crate::tests::histories::{bill_after, is_exact};
 use crate::tests::rounds::{advance, catch_up, is_priced, offer};
-use crate::tests::words::{number, pair, word};
+use crate::tests::words::pair;
 use ih_cellbook::{Book, Buffer, News};
+use ih_fixtures::{cut, number, word};
 use ih_footprint::Numbering;
 use ih_journal::{Entry, Options, Verdict, parse_line};
 use ih_plan::{Move, Plan};
@@ -50,7 +51,6 @@ fn offers(scene: &Scene<'_>, book: &mut Book<'_>, replica: &mut Replica<'_>, lin
     requires replica { IsReplicaIn book.old.base book.old.entries replica.old }
     ensures base { book.new.base ≡ book.old.base }
     ensures replica { IsReplicaIn book.old.base book.new.entries replica.new }
-    ensures others { StayIn book.old.base book.old.entries book.new.entries }
 {
     match parse_line(scene.inst, &scene.options, line.as_bytes()) {
         Ok((place, entry)) => {
@@ -87,7 +87,6 @@ fn idles(
     requires replica { IsReplicaIn book.old.base book.old.entries replica.old }
     ensures base { book.new.base ≡ book.old.base }
     ensures replica { IsReplicaIn book.old.base book.new.entries replica.new }
-    ensures others { StayIn book.old.base book.old.entries book.new.entries }
 {
     for number in 0..count {
         if catch_up(book, replica, news) != (number, number) {
@@ -98,32 +97,6 @@ fn idles(
         }
     }
     true
-}
-
-// Whether a worker's step comes out so.
-fn steps(
-    scene: &Scene<'_>,
-    book: &mut Book<'_>,
-    replica: &mut Replica<'_>,
-    buffer: &mut Buffer,
-    news: &mut News,
-    text: &str,
-) -> bool
-    requires over { IsOver scene.now.inst.now.draft scene.now.options book.old.base }
-    requires replica { IsReplicaIn book.old.base book.old.entries replica.old }
-    ensures base { book.new.base ≡ book.old.base }
-    ensures replica { IsReplicaIn book.old.base book.new.entries replica.new }
-    ensures others { StayIn book.old.base book.old.entries book.new.entries }
-{
-    let (verb, text) = word(text);
-    match verb {
-        "offers" => offers(scene, book, replica, text),
-        "prices" => prices(scene, book, replica, text),
-        "idles" => idles(&scene.options, book, replica, news, number(text)),
-        "looks" => catch_up(book, replica, news) == pair(text),
-        "copies" => advance(book, replica, buffer) == pair(text),
-        _ => false,
-    }
 }
 
 // Whether each cell up to the last has no version yet.
@@ -177,51 +150,96 @@ fn tells(alloc: Global, scene: &Scene<'_>, book: &Book<'_>, buffer: &mut Buffer,
 }
 
 // Whether a line comes out so.
-fn acts(
+fn steps(
     alloc: Global,
     scene: &Scene<'_>,
     book: &mut Book<'_>,
-    zero: &mut Replica<'_>,
-    one: &mut Replica<'_>,
+    replica: &mut Replica<'_>,
     buffer: &mut Buffer,
     news: &mut News,
     line: &str,
 ) -> bool
     requires start { IsPlanOf scene.now.inst.now.draft scene.now.start.now }
     requires over { IsOver scene.now.inst.now.draft scene.now.options book.old.base }
-    requires zero { IsReplicaIn book.old.base book.old.entries zero.old }
-    requires one { IsReplicaIn book.old.base book.old.entries one.old }
+    requires replica { IsReplicaIn book.old.base book.old.entries replica.old }
     ensures base { book.new.base ≡ book.old.base }
-    ensures zero { IsReplicaIn book.old.base book.new.entries zero.new }
-    ensures one { IsReplicaIn book.old.base book.new.entries one.new }
+    ensures replica { IsReplicaIn book.old.base book.new.entries replica.new }
 {
-    let (who, text) = word(line);
-    match who {
-        "0" => steps(scene, book, zero, buffer, news, text),
-        "1" => steps(scene, book, one, buffer, news, text),
+    let (verb, text) = word(line);
+    match verb {
+        "offers" => offers(scene, book, replica, text),
+        "prices" => prices(scene, book, replica, text),
+        "idles" => idles(&scene.options, book, replica, news, number(text)),
+        "looks" => catch_up(book, replica, news) == pair(text),
+        "follows" => advance(book, replica, buffer) == pair(text),
         _ => tells(alloc, scene, book, buffer, text),
     }
 }
 
-/// Whether each line comes out so.
-pub(crate) fn act_all(
+// Whether each of some lines comes out so.
+fn step_all(
     alloc: Global,
     scene: &Scene<'_>,
     book: &mut Book<'_>,
-    zero: &mut Replica<'_>,
-    one: &mut Replica<'_>,
+    replica: &mut Replica<'_>,
     buffer: &mut Buffer,
     news: &mut News,
     lines: &str,
 ) -> bool
     requires start { IsPlanOf scene.now.inst.now.draft scene.now.start.now }
     requires over { IsOver scene.now.inst.now.draft scene.now.options book.old.base }
-    requires zero { IsReplicaIn book.old.base book.old.entries zero.old }
-    requires one { IsReplicaIn book.old.base book.old.entries one.old }
-    ensures base { book.new.base ≡ book.old.base }
+    requires replica { IsReplicaIn book.old.base book.old.entries replica.old }
+    ensures { book.new.base ≡ book.old.base }
 {
     for line in lines.split('\n') {
-        if !acts(alloc, scene, book, zero, one, buffer, news, line) {
+        if !steps(alloc, scene, book, replica, buffer, news, line) {
+            return false;
+        }
+    }
+    true
+}
+
+// Whether a part comes out so.
+fn act(
+    alloc: Global,
+    scene: &Scene<'_>,
+    book: &mut Book<'_>,
+    buffer: &mut Buffer,
+    news: &mut News,
+    part: &str,
+) -> bool
+    requires given { IsGiven scene.now.inst.now.draft scene.now.start.now scene.now.options }
+    requires base { book.old.base ≡ base_with scene.now.inst.now.draft scene.now.start.now scene.now.options scene.now.freeze }
+    ensures { book.new.base ≡ book.old.base }
+{
+    let (worker, lines) = cut(part, "\n");
+    match Replica::new(
+        alloc,
+        scene.inst,
+        scene.start,
+        &scene.options,
+        scene.freeze,
+        number(worker),
+    ) {
+        Ok(mut replica) => step_all(alloc, scene, book, &mut replica, buffer, news, lines),
+        Err(_) => false,
+    }
+}
+
+/// Whether each part comes out so.
+pub(crate) fn act_all(
+    alloc: Global,
+    scene: &Scene<'_>,
+    book: &mut Book<'_>,
+    buffer: &mut Buffer,
+    news: &mut News,
+    parts: &str,
+) -> bool
+    requires given { IsGiven scene.now.inst.now.draft scene.now.start.now scene.now.options }
+    requires base { book.old.base ≡ base_with scene.now.inst.now.draft scene.now.start.now scene.now.options scene.now.freeze }
+{
+    for part in parts.split("\n\n") {
+        if !act(alloc, scene, book, buffer, news, part) {
             return false;
         }
     }

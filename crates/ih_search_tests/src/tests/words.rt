@@ -1,17 +1,6 @@
 //! The words of the tests' texts.
 
-/// The first word, and what stands behind it.
-pub(crate) fn word(text: &str) -> (&str, &str) {
-    text.split_once(" ").unwrap_or((text, ""))
-}
-
-/// The number that a word is, or else one that the tests don't have.
-pub(crate) fn number(word: &str) -> u32 {
-    match word.parse::<u32>() {
-        Ok(number) => number,
-        Err(_) => u32::MAX,
-    }
-}
+use ih_fixtures::{number, word};
 
 /// The two numbers of a text.
 pub(crate) fn pair(text: &str) -> (u32, u32) {

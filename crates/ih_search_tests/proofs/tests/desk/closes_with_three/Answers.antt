@@ -1,5 +1,5 @@
 use Rattle.ih_desk.specs.Desks.{IsSeatAt}
-use Rattle.ih_search_tests.proofs.TwoSeats.{both_have, both_numbers}
+use Rattle.ih_fixtures.proofs.TwoItems.{both_have, both_numbers}
 use Rattle.ih_search_tests.proofs.tests.desk.closes_with_three.Goals as goal
 
 pub close-requires-clause-own : goal.close-requires-clause-own

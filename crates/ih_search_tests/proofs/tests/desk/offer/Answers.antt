@@ -8,7 +8,7 @@ use Rattle.ih_cellbook.specs.Offers.{next_number}
 use Rattle.ih_cellbook.specs.Replicas.{IsReplicaIn}
 use Rattle.ih_cellbook.proofs.Within.{offered-right, stands-behind, stands-same}
 use Rattle.ih_desk.specs.Desks.{base_of}
-use Rattle.ih_search_tests.proofs.Desks.{whole-is}
+use Rattle.ih_search_tests.proofs.NewReplicas.{whole-is}
 use Rattle.ih_search_tests.proofs.tests.desk.offer.Goals as goal
 
 pub look-seat-requires : goal.look-seat-requires

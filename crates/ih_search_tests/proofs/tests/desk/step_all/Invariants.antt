@@ -1,4 +1,4 @@
-use Rattle.ih_search_tests.specs.NewSeats.{StaysFollowed}
+use Rattle.ih_search_tests.specs.Followed.{StaysFollowed}
 use Rattle.ih_search_tests.proofs.tests.desk.step_all.Given as goal
 
 abbrev pub invariant-loop-line : goal.invariant-loop-line

@@ -35,11 +35,6 @@ returns-then-may_come-clause-replica c =
     let same = stands-same v.base v.entries c.args.replica.now c.requires.replica s c.offer-offer.follows.holds-at-none.2 in
     subst (λ es. IsReplicaIn v.base es s) (sym c.commit.ensures.entries) (stands-behind v.base v.entries s same _)
 
-pub returns-then-may_come-clause-others : goal.returns-then-may_come-clause-others
-returns-then-may_come-clause-others c r stands =
-    let v = c.args.book.now in
-    subst (λ es. IsReplicaIn v.base es r) (sym c.commit.ensures.entries) (stands-behind v.base v.entries r stands _)
-
 pub returns-else-may_come-clause-replica : goal.returns-else-may_come-clause-replica
 returns-else-may_come-clause-replica c =
     let v = c.args.book.now in

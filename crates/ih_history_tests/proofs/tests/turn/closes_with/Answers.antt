@@ -1,6 +1,6 @@
 use Rattle.ih_turn.specs.Seats.{IsSeatOf}
-use Rattle.ih_search_tests.proofs.TwoSeats.{both_have, both_numbers}
-use Rattle.ih_search_tests.proofs.tests.turn.closes_with.Goals as goal
+use Rattle.ih_fixtures.proofs.TwoItems.{both_have, both_numbers}
+use Rattle.ih_history_tests.proofs.tests.turn.closes_with.Goals as goal
 
 pub close-requires-clause-own : goal.close-requires-clause-own
 close-requires-clause-own c = both_have c.args.one c.args.two _ c.in-Some.ensures (IsSeatOf c.args.turn) c.requires.own.1 c.requires.own.2

@@ -1,7 +1,7 @@
 use Rattle.std.proofs.Common.{◌≡◌, arith}
 use Rattle.ih_turn.specs.Seats.{IsSeatOf, turns_left}
-use Rattle.ih_search_tests.proofs.TwoSeats.{each_has}
-use Rattle.ih_search_tests.proofs.tests.turn.two_leave_theirs.Goals as goal
+use Rattle.ih_fixtures.proofs.TwoItems.{each_has}
+use Rattle.ih_history_tests.proofs.tests.turn.two_leave_theirs.Goals as goal
 
 pub both_add-requires-clause-own : goal.both_add-requires-clause-own
 both_add-requires-clause-own g c κs within =

@@ -3,7 +3,7 @@
 ghost use Rattle.std.specs.Prelude.{◌≡◌, ℕ, ◌+◌, ◌-◌, ◌*◌, ◌^◌, ◌<◌, ◌≤◌, All, map, slice_index};
 ghost use Rattle.ih_turn.specs.Seats.{IsSeatOf, seat_count, number_of, turns_left};
 
-use crate::tests::seats::{list_of, two_of};
+use ih_fixtures::{list_of, two_of};
 use ih_turn::{Kept, Seat, Turn};
 use std::alloc::{AllocError, Global};
 use std::sync::Wait;

@@ -3,8 +3,7 @@
 ghost use Rattle.ih_plan.specs.Timetable.{IsPlanOf};
 ghost use Rattle.ih_journal.specs.Settings.{IsLawful};
 
-use crate::tests::words::{number, word};
-use ih_fixtures::{on_first_admitted, share};
+use ih_fixtures::{number, on_first_admitted, share, word};
 use ih_journal::{Options, Reason, parse_head};
 use ih_plan::Plan;
 use ih_replay::Replay;

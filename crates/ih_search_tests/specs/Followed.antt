@@ -1,13 +1,9 @@
--- Seats with which nobody has looked or offered, and seats beside a replica.
-use Rattle.std.specs.Prelude.{◌≡◌, ℕ, []}
-use Rattle.ih_turn.specs.Seats.{history, made_count, number_of, turns_left}
+-- Seats beside a replica.
+use Rattle.std.specs.Prelude.{◌≡◌}
+use Rattle.ih_turn.specs.Seats.{history, number_of}
 use Rattle.ih_cellbook.specs.Replicas.{IsReplicaIn}
 use Rattle.ih_cellbook.specs.ReplicaState.{ReplicaState}
 use Rattle.ih_desk.specs.Desks.{Desk, DeskSeat, IsSeatAt, base_of}
-
--- the seat is one of the desk's, and has seen and made nothing, with so many turns left
-abbrev pub IsNewSeat : ℕ → Desk → DeskSeat → Type 0
-IsNewSeat turns desk seat = IsSeatAt desk seat × (history seat ≡ []) × (made_count seat ≡ 0) × (turns_left seat ≡ turns)
 
 -- the seat is one of the desk's, and the replica stands for the first entries of those that it has seen
 pub record IsFollowed (desk : Desk) (seat : DeskSeat) (r : ReplicaState) : Type 0 where
