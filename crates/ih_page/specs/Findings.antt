@@ -1,6 +1,6 @@
 -- What breaks a rule or costs, and where: for each number of the bill the cells that have a part in it, each with its
 -- amount.
-use Rattle.std.specs.Prelude.{ℕ, ◌<◌, ℤ, Bool, ◌==◌, not, List, [], ◌∷◌, codes, map, slice_index}
+use Rattle.std.specs.Prelude.{ℕ, ◌<◌, ℤ, Bool, true, false, ◌==◌, not, List, [], ◌∷◌, codes, map, slice_index}
 use Rattle.serde_json.specs.Data.{Data, object, no_members, member}
 use Rattle.ih_tables.specs.declared.bills.Bill.{Bill}
 use Rattle.ih_tables.specs.declared.cells.Cell.{Cell}
@@ -22,6 +22,11 @@ use Rattle.ih_values.specs.Values.{numbers_data}
 abbrev pub IsLine : Line → Type 0
 IsLine (Rule i) = i < 9
 IsLine (Cost i) = i < 8
+
+-- rule i, or cost i
+abbrev pub line_of : (is_rule : Bool) → ℕ → Line
+line_of true i = Rule i
+line_of false i = Cost i
 
 -- its number of a bill
 abbrev pub number_in : Bill → Line → ℤ
@@ -66,16 +71,12 @@ finding_at I P l n = finding_data (amount_at I P l n) (spot_of (cell_at I n))
 unfoldable pub line_data : Draft → Timetable → Line → Data
 line_data I P l = list_data (map (finding_at I P l) (findings_of I P l))
 
--- those of the costs below number n
-abbrev pub costs_data : Draft → Timetable → ℕ → List Data
-costs_data I P n = listed n (λ i. line_data I P (Cost i))
-
--- those of the rules below number n
-abbrev pub rules_data : Draft → Timetable → ℕ → List Data
-rules_data I P n = listed n (λ i. line_data I P (Rule i))
+-- those of the rules, or of the costs, below number n
+abbrev pub lines_data : Draft → Timetable → (are_rules : Bool) → ℕ → List Data
+lines_data I P are_rules n = listed n (λ i. line_data I P (line_of are_rules i))
 
 -- those of each number of the bill
 unfoldable pub findings_data : Draft → Timetable → Data
 findings_data I P = object
-    (member (codes "costs") (list_data (costs_data I P 8))
-    (member (codes "rules") (list_data (rules_data I P 9)) no_members))
+    (member (codes "costs") (list_data (lines_data I P false 8))
+    (member (codes "rules") (list_data (lines_data I P true 9)) no_members))

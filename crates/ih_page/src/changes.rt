@@ -11,8 +11,7 @@ use crate::timetables::{bill_value, nurse_value, stay_value};
 use ih_changes::{has_another, is_changed};
 use ih_plan::Plan;
 use ih_tables::{Instance, PatientNo, RoomNo, Shift};
-use ih_values::{Made, Object, listed_value, numbered_value};
-use serde_json::Value;
+use ih_values::{Array, Made, Object, listed_value, numbered_value};
 use std::alloc::Global;
 
 /// Two timetables of an instance.
@@ -31,14 +30,14 @@ fn patients_value(alloc: Global, both: &Compared<'_>) -> Made
     ensures { IfOk result (λ v. view v
         ≡ list_data (patients_data both.now.inst.now.draft both.now.older.now both.now.plan.now)) }
 {
-    let mut values = Vec::new(alloc);
+    let mut values = Array::new(alloc);
     for p in 0..both.inst.patients() {
         if is_changed(both.inst, both.older, both.plan, PatientNo(p)) {
-            let was = stay_value(alloc, both.older, PatientNo(p))?;
-            values.push(numbered_value(alloc, p, was)?)?;
+            let was = stay_value(alloc, both.older, PatientNo(p));
+            values = values.add(numbered_value(alloc, p, was))?;
         }
     }
-    Ok(Value::Array(values))
+    values.value()
 }
 
 // The shifts in which the room has another nurse, with the older one.
@@ -48,14 +47,14 @@ fn room_value(alloc: Global, both: &Compared<'_>, room: RoomNo) -> Made
     ensures { IfOk result
         (λ v. view v ≡ room_data both.now.inst.now.draft both.now.older.now both.now.plan.now room.0) }
 {
-    let mut values = Vec::new(alloc);
+    let mut values = Array::new(alloc);
     for k in 0..both.inst.shifts() {
         if has_another(both.inst, both.older, both.plan, room, Shift(k)) {
             let was = nurse_value(both.inst, both.older, room, Shift(k));
-            values.push(numbered_value(alloc, k, was)?)?;
+            values = values.add(numbered_value(alloc, k, Ok(was)))?;
         }
     }
-    Ok(Value::Array(values))
+    values.value()
 }
 
 // For every room, the shifts in which it has another nurse, with the older one.

@@ -1,18 +1,17 @@
 //! What breaks rules or costs, and where, as JSON values.
 
-ghost use Rattle.std.specs.Prelude.{◌≡◌, ◌≤◌, IfOk, unsigned_abs};
+ghost use Rattle.std.specs.Prelude.{◌≡◌, ◌<◌, ℕ, IfOk, unsigned_abs};
 ghost use Rattle.serde_json.specs.View.{view};
 ghost use Rattle.ih_tables.specs.Sizes.{sizes_of};
 ghost use Rattle.ih_plan.specs.Cells.{IsCellOf, part_at};
 ghost use Rattle.ih_solution.specs.Solution.{list_data};
-ghost use Rattle.ih_page.specs.Findings.{IsLine, costs_data, count_in, finding_data, findings_data, line_data, number_in};
-ghost use Rattle.ih_page.specs.Findings.{rules_data, spot_of};
+ghost use Rattle.ih_page.specs.Findings.{IsLine, count_in, finding_data, findings_data, line_data, line_of};
+ghost use Rattle.ih_page.specs.Findings.{lines_data, number_in, spot_of};
 
 use ih_costs::Ledgers;
 use ih_footprint::Numbering;
 use ih_tables::{Bill, Cell};
-use ih_values::{Made, Object, list_value, listed_value};
-use serde_json::Value;
+use ih_values::{Array, Made, Object, list_value, listed_value};
 use std::alloc::Global;
 
 /// One of the nine rules or of the eight costs, by its place.
@@ -82,37 +81,41 @@ fn line_value(alloc: Global, cells: Numbering, ledgers: &Ledgers<'_>, line: Line
     requires line { IsLine line }
     ensures { IfOk result (λ v. view v ≡ line_data ledgers.now.instance ledgers.now.plan line) }
 {
-    let mut values = Vec::new(alloc);
+    let mut values = Array::new(alloc);
     for n in 0..cells.count() {
         let cell = cells.cell(n);
         let amount = amount(ledgers, line, cell);
         if amount != 0 {
-            values.push(finding_value(alloc, amount, spot_of(cell))?)?;
+            values = values.add(finding_value(alloc, amount, spot_of(cell)))?;
         }
     }
-    Ok(Value::Array(values))
+    values.value()
 }
 
-// The findings of the costs below a number.
-fn costs_value(alloc: Global, cells: Numbering, ledgers: &Ledgers<'_>, count: u32) -> Made
-    requires cells { cells ≡ sizes_of ledgers.now.instance }
-    requires few { count ≤ 8 }
-    ensures { IfOk result (λ v. view v ≡ list_data (costs_data ledgers.now.instance ledgers.now.plan count)) }
+fn line_of(are_rules: bool, number: u32) -> Line
+    ensures { result ≡ line_of are_rules number }
 {
-    listed_value(alloc, count, |i| {
-        let line = Line::Cost(i);
-        line_value(alloc, cells, ledgers, line)
-    })
+    if are_rules {
+        Line::Rule(number)
+    } else {
+        Line::Cost(number)
+    }
 }
 
-// The findings of the rules below a number.
-fn rules_value(alloc: Global, cells: Numbering, ledgers: &Ledgers<'_>, count: u32) -> Made
+// The findings of the rules, or of the costs, below a number.
+fn lines_value(
+    alloc: Global,
+    cells: Numbering,
+    ledgers: &Ledgers<'_>,
+    are_rules: bool,
+    count: u32,
+) -> Made
     requires cells { cells ≡ sizes_of ledgers.now.instance }
-    requires few { count ≤ 9 }
-    ensures { IfOk result (λ v. view v ≡ list_data (rules_data ledgers.now.instance ledgers.now.plan count)) }
+    requires few { (i : ℕ) → i < count → IsLine (line_of are_rules i) }
+    ensures { IfOk result (λ v. view v ≡ list_data (lines_data ledgers.now.instance ledgers.now.plan are_rules count)) }
 {
     listed_value(alloc, count, |i| {
-        let line = Line::Rule(i);
+        let line = line_of(are_rules, i);
         line_value(alloc, cells, ledgers, line)
     })
 }
@@ -124,7 +127,7 @@ pub fn findings_value(alloc: Global, cells: Numbering, ledgers: &Ledgers<'_>) ->
     ensures { IfOk result (λ v. view v ≡ findings_data ledgers.now.instance ledgers.now.plan) }
 {
     Object::new(alloc)
-        .put("costs", costs_value(alloc, cells, ledgers, 8))?
-        .put("rules", rules_value(alloc, cells, ledgers, 9))?
+        .put("costs", lines_value(alloc, cells, ledgers, false, 8))?
+        .put("rules", lines_value(alloc, cells, ledgers, true, 9))?
         .value()
 }

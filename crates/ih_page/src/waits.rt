@@ -12,7 +12,7 @@ use crate::timetables::place_value;
 use ih_fill::Scorer;
 use ih_plan::{MAX_HARD, Placement, Plan};
 use ih_tables::{Bill, Instance, PatientNo};
-use ih_values::{Made, Object, numbered_value};
+use ih_values::{Array, Made, Object, numbered_value};
 use ih_waiting::{broken_more, change_by, cheapest_admission};
 use serde_json::Value;
 use std::alloc::Global;
@@ -52,8 +52,7 @@ fn wait_value(alloc: Global, inst: &Instance, scorer: &Scorer<'_>, patient: Pati
     requires patient { patient.0 < patient_count inst.now.draft }
     ensures { IfOk result (λ v. view v ≡ wait_data inst.now.draft scorer.now.plan patient.0) }
 {
-    let could = could_value(alloc, inst, scorer, patient)?;
-    numbered_value(alloc, patient.0, could)
+    numbered_value(alloc, patient.0, could_value(alloc, inst, scorer, patient))
 }
 
 // Those who wait in the scorer's timetable.
@@ -62,13 +61,13 @@ fn waits_value_by(alloc: Global, inst: &Instance, scorer: &Scorer<'_>) -> Made
     requires { IsForAdmissions inst.now.draft scorer.now }
     ensures { IfOk result (λ v. view v ≡ list_data (waits_data inst.now.draft scorer.now.plan)) }
 {
-    let mut values = Vec::new(alloc);
+    let mut values = Array::new(alloc);
     for p in 0..inst.patients() {
         if scorer.plan().stay(PatientNo(p)).is_none() {
-            values.push(wait_value(alloc, inst, scorer, PatientNo(p))?)?;
+            values = values.add(wait_value(alloc, inst, scorer, PatientNo(p)))?;
         }
     }
-    Ok(Value::Array(values))
+    values.value()
 }
 
 /// The patients whom the timetable leaves out, in number order, each with the cheapest admission.

@@ -5,5 +5,5 @@ mod instances;
 mod objects;
 mod values;
 
-pub use objects::Object;
+pub use objects::{Array, Object};
 pub use values::{Made, Shown, list_value, listed_value, numbered_value};

@@ -1,4 +1,4 @@
-//! JSON objects, built member by member.
+//! JSON objects and arrays, built one after the other of what they hold.
 
 use crate::values::{Made, Shown, list_value};
 use serde_json::{Map, Value, put};
@@ -62,5 +62,44 @@ impl Object {
         ensures { IfOk result (λ v. view v ≡ object (members self)) }
     {
         Ok(Value::Object(self.map))
+    }
+}
+
+/// A JSON array under way, likewise.
+#[derive(Drop)]
+pub struct Array {
+    values: Vec<Value>,
+}
+
+impl Array {
+    ghost use Rattle.std.specs.Prelude.{◌≡◌, ◌++◌, [], ◌∷◌, IfOk, Ok};
+    ghost use Rattle.serde_json.specs.View.{view};
+    ghost use Rattle.serde_json.specs.declared.value.Value.{Value};
+    ghost use Rattle.ih_solution.specs.Solution.{list_data};
+    ghost use Rattle.ih_values.specs.Objects.{elements};
+
+    /// Without elements.
+    pub fn new(alloc: Global) -> Array
+        ensures { elements result ≡ [] }
+    {
+        Array {
+            values: Vec::new(alloc),
+        }
+    }
+
+    /// Adds a value behind the others, if it could be made.
+    pub fn add(self, value: Made) -> Made<Array>
+        ensures { IfOk result (λ a. (v : Value) × (value ≡ Ok v) × (elements a ≡ elements self ++ view v ∷ [])) }
+    {
+        let Array { mut values } = self;
+        values.push(value?)?;
+        Ok(Array { values })
+    }
+
+    /// The whole.
+    pub fn value(self) -> Made
+        ensures { IfOk result (λ v. view v ≡ list_data (elements self)) }
+    {
+        Ok(Value::Array(self.values))
     }
 }

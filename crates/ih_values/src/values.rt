@@ -1,14 +1,16 @@
 //! Things as JSON values, and lists of them.
 
-ghost use Rattle.std.specs.Prelude.{◌≡◌, ◌<◌, IfOk, List as Items, ℕ, map, unsigned_abs};
+ghost use Rattle.std.specs.Prelude.{◌≡◌, ◌<◌, IfOk, List as Items, Ok, ℕ, map, unsigned_abs};
 ghost use Rattle.serde_json.specs.{Data.Data, Data.boolean, Data.string, View.view};
+ghost use Rattle.serde_json.specs.declared.value.Value.{Value};
 ghost use Rattle.ih_tables.specs.Listed.{listed};
 ghost use Rattle.ih_solution.specs.Solution.{list_data, number_data};
 ghost use Rattle.ih_values.specs.Values.{amount_data, numbered_data, option_data};
 
+use crate::objects::Array;
 use ih_solution::listed_values;
 use ih_tables::Name;
-use serde_json::{Value, push};
+use serde_json::Value;
 use std::alloc::{AllocError, Global};
 
 /// What is made, a JSON value if nothing else is said: it is missing only where memory ran out.
@@ -79,11 +81,11 @@ impl<T: Shown> Shown for Option<T> {
 pub fn list_value<T: Shown>(alloc: Global, items: &[T]) -> Made
     ensures { IfOk result (λ v. view v ≡ list_data (map T.json items.now)) }
 {
-    let mut values = Vec::new(alloc);
+    let mut values = Array::new(alloc);
     for item in items {
-        values.push(item.value(alloc)?)?;
+        values = values.add(item.value(alloc))?;
     }
-    Ok(Value::Array(values))
+    values.value()
 }
 
 /// The list of what each number below a count has.
@@ -95,12 +97,12 @@ pub fn listed_value<F: Fn(u32) -> Made>(alloc: Global, count: u32, value: F) -> 
     Ok(Value::Array(listed_values(alloc, count, value)?))
 }
 
-/// A number and a value.
-pub fn numbered_value(alloc: Global, number: u32, value: Value) -> Made
-    ensures { IfOk result (λ v. view v ≡ numbered_data number (view value)) }
+/// A number and a value, if that could be made.
+pub fn numbered_value(alloc: Global, number: u32, value: Made) -> Made
+    ensures { IfOk result (λ v. (d : Value) × (value ≡ Ok d) × (view v ≡ numbered_data number (view d))) }
 {
-    let mut pair = Vec::new(alloc);
-    push(&mut pair, Value::from(number))?;
-    push(&mut pair, value)?;
-    Ok(Value::Array(pair))
+    Array::new(alloc)
+        .add(Ok(Value::from(number)))?
+        .add(value)?
+        .value()
 }
