@@ -172,7 +172,7 @@ fn steps(
         "idles" => idles(&scene.options, book, replica, news, number(text)),
         "looks" => catch_up(book, replica, news) == pair(text),
         "follows" => advance(book, replica, buffer) == pair(text),
-        _ => tells(alloc, scene, book, buffer, text),
+        _ => tells(alloc, scene, book, buffer, line),
     }
 }
 
