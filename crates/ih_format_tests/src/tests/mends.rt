@@ -1,13 +1,9 @@
 //! What mends the broken rules of plans for the ward of two patients, after one change of it.
 
 use crate::tests::rows::none_is_wrong;
-use crate::tests::waiting::{ONE_ADMITTED, PLAN, has_lines};
-use ih_fixtures::{TWO_PATIENTS, cut, put_changed};
-use ih_instance::read_instance;
-use ih_mends::mends;
-use ih_solution::read_solution;
-use ih_tables::Instance;
-use std::alloc::Global;
+use crate::tests::said::{Teller, first_wrong};
+use crate::tests::waiting::{ONE_ADMITTED, PLAN};
+use ih_fixtures::TWO_PATIENTS;
 
 // Both are in one room, and have surgery in one theatre. The second nurse has each room in each shift.
 const IN_ONE_ROOM: &str = r#"{"patients":[
@@ -23,39 +19,6 @@ const ALONE_AT_NIGHT: &str = r#"{"patients":[
 {"day":0,"shift":"early","rooms":["r0","r1"]},{"day":0,"shift":"late","rooms":["r0","r1"]},
 {"day":0,"shift":"night","rooms":["r0","r1"]},{"day":1,"shift":"early","rooms":["r0","r1"]},
 {"day":1,"shift":"late","rooms":["r0","r1"]},{"day":1,"shift":"night","rooms":["r1"]}]}]}"#;
-
-// Whether this is said of a plan of an instance.
-fn is_said_of(alloc: Global, inst: &Instance, plan: &str, wanted: &str) -> bool {
-    let Ok(plan) = read_solution(alloc, inst, plan.as_bytes()) else {
-        return false;
-    };
-    match mends(alloc, inst, &plan) {
-        Ok(text) => has_lines(alloc, text.as_slice(), wanted),
-        Err(_) => false,
-    }
-}
-
-// Whether this is said after a change of the ward.
-fn is_said(alloc: Global, plan: &str, old: &str, new: &str, wanted: &str) -> bool {
-    let mut file = String::new(alloc);
-    let changed = matches!(put_changed(&mut file, TWO_PATIENTS, old, new), Ok(true));
-    match read_instance(alloc, file.as_bytes()) {
-        Ok(inst) => changed && is_said_of(alloc, &inst, plan, wanted),
-        Err(_) => false,
-    }
-}
-
-// The first row that isn't so: what stands in the ward's file, what is put in its place, and the lines then.
-fn first_wrong<'t>(alloc: Global, plan: &str, table: &'t str) -> &'t str {
-    for row in table.trim().split('\n') {
-        let (old, rest) = cut(row, " | ");
-        let (new, wanted) = cut(rest, " | ");
-        if !is_said(alloc, plan, old, new, wanted) {
-            return row;
-        }
-    }
-    ""
-}
 
 const TWO_BROKEN: &str = r#"
 "days":2 | "days":2 | mixed genders in a room (1): p1 to day 0, r1, theatre t0: cost +16 / minutes above a theatre's time (40): p1 to day 0, r1, theatre t0: cost +16
@@ -77,8 +40,13 @@ const ONE_OPEN: &str = r#"
 
 #[test]
 fn each_broken_rule_has_its_cheapest_mend(rt: HostRuntime) {
-    none_is_wrong(&rt, first_wrong(rt.alloc(), IN_ONE_ROOM, TWO_BROKEN));
-    none_is_wrong(&rt, first_wrong(rt.alloc(), PLAN, LEFT_OUT));
-    none_is_wrong(&rt, first_wrong(rt.alloc(), ONE_ADMITTED, NO_NURSES));
-    none_is_wrong(&rt, first_wrong(rt.alloc(), ALONE_AT_NIGHT, ONE_OPEN));
+    for (plan, table) in [
+        (IN_ONE_ROOM, TWO_BROKEN),
+        (PLAN, LEFT_OUT),
+        (ONE_ADMITTED, NO_NURSES),
+        (ALONE_AT_NIGHT, ONE_OPEN),
+    ] {
+        let teller = Teller::Mends(plan);
+        none_is_wrong(&rt, first_wrong(rt.alloc(), teller, TWO_PATIENTS, table));
+    }
 }
