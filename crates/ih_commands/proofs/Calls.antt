@@ -1,71 +1,21 @@
 -- How calls end: each may fail to be said, at each memory may run out, and one whose files are accepted, and in which no
 -- count rose, comes to its end.
-use Rattle.std.proofs.Common.{◌≡◌, ℕ, refl, sym, ap, subst, inl, inr, Bool, true, false, List, [], ◌∷◌, Option, Some, None}
-use Rattle.std.specs.Prelude.{◌≢◌, ◌⊎◌, if◌then◌else◌}
-use Rattle.ih_commands.specs.Below.Wards.{Draft, Timetable, bill_of, feasible}
+use Rattle.std.proofs.Common.{◌≡◌, ℕ, refl, ap, inl, inr, Bool, true, false, List, Option, Some, None}
+use Rattle.std.specs.Prelude.{◌⊎◌}
 use Rattle.ih_commands.specs.Below.Arguments.{Text}
-use Rattle.ih_commands.specs.Below.Endings.{AreAnswers, BegunEnds, Done, Given, HasCause, HasGiven, HasNoFault, IfTold, Infeasible, IsOnePutAtMost, Names, NoneFound, OutOfMemory, OutcomeState, Rose, Status, Unchanged, is_there, memory_text}
-use Rattle.ih_commands.specs.Below.Searches.{ImproverState, Leaves as WorkerLeaves}
+use Rattle.ih_commands.specs.Below.Endings.{AreAnswers, Done, HasCause, HasNoFault, IfTold, Infeasible, IsOnePutAtMost, Names, OutOfMemory, OutcomeState, Rose, Status, memory_text}
 use Rattle.ih_endings.proofs.Files.{told-same}
 use Rattle.ih_endings.proofs.Saying.{IsAnswerable, memory-ended, unsaid-by}
 use Rattle.ih_endings.proofs.Stopping.{unread-memory}
-use Rattle.ih_frame.proofs.Complete.{accepted, command-answered, no-fault, reached, steps-answered}
+use Rattle.ih_frame.proofs.Complete.{command-answered, no-fault, reached}
 use Rattle.ih_frame.proofs.StepByStep.{one-within}
 use Rattle.ih_commands.specs.Calls.Bound.{judged_status}
 use Rattle.ih_commands.specs.Calls.{Call, IsAnswered, bound, carry, check, comes_to, improve, inputs_of, table, view, why}
 use Rattle.ih_commands.specs.Ends.{CallEnds, HasFewPuts, HasFiles, IsComplete, IsUntouched, Leaves, NoCallEnds}
-use Rattle.ih_commands.specs.Calls.Improve.{ImproveCall, improve_inputs, reading}
-use Rattle.ih_commands.specs.Pacing.{most_rounds}
-use Rattle.ih_commands.specs.Pinning.{first_unknown}
-use Rattle.ih_commands.specs.Rounds.{IsRound, IsSearched, SearchTask, goes_out, stays}
-use Rattle.ih_commands.specs.Searching.{ImproveEnds, IsSearch, PinsNobody, SearchEnds, task_of}
+use Rattle.ih_optimizer.proofs.Answered.{improve-memory, improved}
+use Rattle.ih_optimizer.specs.Pacing.{most_rounds}
 
 -- ---- calls whose files are accepted
-
--- a status of a search that is over
-abbrev IsOver : Status → Type 0
-IsOver status = (status ≡ Done) ⊎ (status ≡ NoneFound) ⊎ (status ≡ OutOfMemory)
-
-by-flag : (b : Bool) (o found none : OutcomeState) → IsOver found.status → IsOver none.status → o ≡ (if b then found else none) → IsOver o.status
-by-flag true o found none one other is = subst IsOver (sym (ap (λ (p : OutcomeState). p.status) is)) one
-by-flag false o found none one other is = subst IsOver (sym (ap (λ (p : OutcomeState). p.status) is)) other
-
-stays-over : (t : SearchTask) (x : ImproverState) (held : Option Timetable) → IsOver (stays t x held).status
-stays-over t x None = inr (inl refl)
-stays-over t x (Some H) = by-flag (feasible (bill_of x.instance H)) _ _ _ (inl refl) (inr (inl refl)) refl
-
-searched-over : (t : SearchTask) (x : ImproverState) (o : OutcomeState) → IsSearched t x o → IsOver o.status
-searched-over t x o is = by-flag (goes_out t x) o _ _ (inl refl) (stays-over t x t.held) is.comes
-
-over-answered : (c : ImproveCall) (status : Status) → IsOver status → IsAnswered (improve c) status
-over-answered c status (inl done) = inl done
-over-answered c status (inr (inl none)) = inr (inl none)
-over-answered c status (inr (inr memory)) = inr (inr (inl memory))
-
--- an id that no patient has is one that is pinned
-some-pinned : (I : Draft) (ids : List Text) (id : Text) → first_unknown I ids ≡ Some id → ids ≢ []
-some-pinned I [] id unknown none = let no : None ≡ Some id = unknown in cc
-some-pinned I (i ∷ ids) id unknown none = let no : i ∷ ids ≡ [] = none in cc
-
-improved : (c : ImproveCall) (files : Names) (new : Option Names) (g : Given) → HasGiven (Some files) (improve_inputs (reading (is_there files c.out) c)) g
-    → (status : Status) (text : List ℕ) → HasNoFault status → ImproveEnds c (Some files) new status text → IsAnswered (improve c) status
-improved c files new g has status text calm h = by_ends h.ends.ends
-  where
-    x : ImproveCall
-    x = reading h.found c
-
-    read : HasGiven (Some files) (improve_inputs x) g
-    read = subst (λ (b : Bool). HasGiven (Some files) (improve_inputs (reading b c)) g) (sym h.there) has
-
-    by_ends : (IfTold Unchanged (Some files) new × PinsNobody (Some files) x status text)
-        ⊎ BegunEnds (IsSearch (Some files) x h.ends.held h.ends.bound) (IsRound WorkerLeaves (task_of x h.ends.held h.ends.bound)) (IsSearched (task_of x h.ends.held h.ends.bound))
-        (most_rounds c.pace.length c.pace.rounds) (improve_inputs x) (Some files) new status text → IsAnswered (improve c) status
-    by_ends (inl (kept, nobody)) = inr (inr (inr (some-pinned nobody.instance c.pins nobody.id nobody.unknown, nobody.refused)))
-    by_ends (inr (inl (kept, unread))) = over-answered c status (inr (inr (accepted files (improve_inputs x) g read status text calm unread)))
-    by_ends (inr (inr (v, is, e))) =
-        over-answered c status (steps-answered (IsRound WorkerLeaves (task_of x h.ends.held h.ends.bound)) (IsSearched (task_of x h.ends.held h.ends.bound)) (most_rounds c.pace.length c.pace.rounds) v
-        (Some files) new IsOver (λ y o z r. inl (ap (λ (p : OutcomeState). p.status) r.comes))
-        (λ y o over. searched-over (task_of x h.ends.held h.ends.bound) y o over) (inr (inr refl)) status text calm e)
 
 -- a status by a judgement
 judged : (works : Bool) (status : Status) → status ≡ judged_status works → (status ≡ Done) ⊎ (status ≡ Infeasible) ⊎ (status ≡ OutOfMemory)
@@ -107,14 +57,7 @@ no_call-answerable words = record {
 
 -- memory may run out in any call before anything is done
 call-memory : (call : Call) (files : Option Names) → CallEnds call files files OutOfMemory memory_text
-call-memory (improve c) files = by_files files
-  where
-    at : (found : Bool) (fs : Option Names) → SearchEnds (reading found c) fs fs OutOfMemory memory_text
-    at found fs = record { held = None; bound = None; ends = inr (inl (told-same fs fs refl, unread-memory fs (improve_inputs (reading found c)))) }
-
-    by_files : (fs : Option Names) → ImproveEnds c fs fs OutOfMemory memory_text
-    by_files None = record { found = false; there = tt; ends = at false None }
-    by_files (Some names) = record { found = is_there names c.out; there = refl; ends = at (is_there names c.out) (Some names) }
+call-memory (improve c) files = improve-memory c files
 call-memory call files = inl (told-same files files refl, unread-memory files (inputs_of call))
 
 -- whatever call the words name, and also where they name none

@@ -1,9 +1,4 @@
 pub mod Calls
 pub mod FirstWord
-pub mod ImproveEnding
 pub mod NoPlan
-pub mod Promises
-pub mod RoundsTaken
-pub mod SameRounds
-pub mod SameSearches
 pub mod SettingsRead

@@ -5,12 +5,13 @@ use Rattle.ih_commands.specs.Below.Wards.{MAX_HARD, MAX_HEAT, MAX_WORKERS}
 use Rattle.ih_commands.specs.Below.Arguments.{IsNumberIfGiven, Row, number_if_given, takes_a_file}
 use Rattle.ih_commands.specs.Below.Searches.{MAX_KEEP}
 use Rattle.ih_arguments.proofs.Getters.{number_if_given-within}
-use Rattle.ih_commands.specs.Calls.Improve.{HasImprove, ImproveCall, IsLawfulCall, default_rounds, improve_in, keep_in, length_in}
-use Rattle.ih_commands.specs.Pacing.{attempts_of}
+use Rattle.ih_commands.specs.Calls.Improve.{HasImprove, default_rounds, improve_in, keep_in, length_in}
+use Rattle.ih_optimizer.specs.Call.{ImproveCall, IsLawfulCall}
+use Rattle.ih_optimizer.specs.Pacing.{attempts_of}
 use Rattle.ih_commands.specs.declared.command.common.TheConstants.{DEFAULT_WORKERS}
-use Rattle.ih_commands.specs.declared.pacing.Length.{Length}
-use Rattle.ih_commands.specs.declared.pacing.Length.TheVariants.{Attempts, Seconds}
-use Rattle.ih_commands.specs.declared.pacing.TheConstants.{MAX_CALL_ATTEMPTS, MAX_CALL_ROUNDS}
+use Rattle.ih_optimizer.specs.declared.pacing.Length.{Length}
+use Rattle.ih_optimizer.specs.declared.pacing.Length.TheVariants.{Attempts, Seconds}
+use Rattle.ih_optimizer.specs.declared.pacing.TheConstants.{MAX_CALL_ATTEMPTS, MAX_CALL_ROUNDS}
 
 pub default-within : (low high d : ℕ) (o : Option ℕ) → low ≤ d → d ≤ high → IfSome o (λ n. (low ≤ n) × (n ≤ high))
     → (low ≤ unwrap_or o d) × (unwrap_or o d ≤ high)

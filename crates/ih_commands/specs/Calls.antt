@@ -1,14 +1,15 @@
 -- The calls of the program: each list has a line for each command.
-use Rattle.std.specs.Prelude.{◌≡◌, ◌≢◌, ◌⊎◌, [], true, List, Option, None, codes, if◌then◌else◌, option_map, slice_get}
+use Rattle.std.specs.Prelude.{◌≡◌, ◌⊎◌, true, List, Option, None, codes, if◌then◌else◌, option_map, slice_get}
 use Rattle.std.specs.Option.{option_map_or}
 use Rattle.std.specs.Str.{bytes_eq}
 use Rattle.ih_commands.specs.Below.Arguments.{App, Text, by_first_word, call_by, new_app, on_top, with_subcommand}
-use Rattle.ih_commands.specs.Below.Endings.{Done, Given, Infeasible, InputFiles, NoneFound, OutOfMemory, OutcomeState, StartRefused, Status}
+use Rattle.ih_commands.specs.Below.Endings.{Done, Given, Infeasible, InputFiles, OutOfMemory, OutcomeState, Status}
 use Rattle.ih_commands.specs.Calls.Bound.{BoundCall, HasFewWorkers, IsBounded, bound_app, bound_call, bound_inputs, lawful_bound}
 use Rattle.ih_commands.specs.Calls.Carry.{CarryCall, IsCarriedOver, carry_app, carry_call, carry_inputs, lawful_carry}
 use Rattle.ih_commands.specs.Calls.Check.{CheckCall, IsChecked, check_app, check_call, check_inputs, lawful_check}
-use Rattle.ih_commands.specs.Calls.Improve.{ImproveCall, IsLawfulCall, improve_app, improve_call, improve_inputs, lawful_improve}
-use Rattle.ih_commands.specs.Pinning.{unknown_patient}
+use Rattle.ih_commands.specs.Calls.Improve.{improve_app, lawful_improve}
+use Rattle.ih_optimizer.specs.Call.{ImproveCall, IsLawfulCall, improve_call, improve_inputs}
+use Rattle.ih_optimizer.specs.Searching.{IsImproveAnswered}
 use Rattle.ih_commands.specs.Calls.Table.{IsTabled, TableCall, lawful_table, table_app, table_call, table_inputs}
 use Rattle.ih_commands.specs.Calls.View.{IsViewed, ViewCall, lawful_view, view_app, view_call, view_inputs}
 use Rattle.ih_commands.specs.Calls.Why.{HasFewToAsk, IsExplained, WhyCall, lawful_why, why_app, why_call, why_inputs}
@@ -123,9 +124,7 @@ comes_to (why w) = IsExplained w
 
 -- the answers of a call that has all that it needs
 abbrev pub IsAnswered : Call → Status → Type 0
-IsAnswered (improve c) status =
-    (status ≡ Done) ⊎ (status ≡ NoneFound) ⊎ (status ≡ OutOfMemory)
-    ⊎ ((c.pins ≢ []) × (status ≡ StartRefused unknown_patient))
+IsAnswered (improve c) status = IsImproveAnswered c status
 IsAnswered (view v) status = (status ≡ Done) ⊎ (status ≡ OutOfMemory)
 IsAnswered (bound b) status = (status ≡ Done) ⊎ (status ≡ Infeasible) ⊎ (status ≡ OutOfMemory)
 IsAnswered (check c) status = (status ≡ Done) ⊎ (status ≡ Infeasible) ⊎ (status ≡ OutOfMemory)

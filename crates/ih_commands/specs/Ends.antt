@@ -3,9 +3,9 @@ use Rattle.std.specs.Prelude.{◌≡◌, ℕ, ◌+◌, List, Option, Some, None}
 use Rattle.ih_commands.specs.Below.Arguments.{MayAskForHelp, MayBeRefused, Text}
 use Rattle.ih_commands.specs.Below.Endings.{ArePutsAtMost, CommandEnds, Done, Ends, Given, HasGiven, IfTold, IsOnePutAtMost, Names, OutOfMemory, Status, Unchanged, Usage, WriteFault, is_there, memory_text}
 use Rattle.ih_commands.specs.Calls.{Call, IsAnswered, app_for, comes_to, improve, inputs_of}
-use Rattle.ih_commands.specs.Calls.Improve.{improve_inputs, reading}
-use Rattle.ih_commands.specs.Pacing.{most_rounds}
-use Rattle.ih_commands.specs.Searching.{ImproveEnds}
+use Rattle.ih_optimizer.specs.Call.{improve_inputs, reading}
+use Rattle.ih_optimizer.specs.Pacing.{most_rounds}
+use Rattle.ih_optimizer.specs.Searching.{ImproveEnds}
 
 -- what a call has read and written, and the text that it had to say, by its status
 abbrev pub CallEnds : Call → Option Names → Option Names → Status → List ℕ → Type 0

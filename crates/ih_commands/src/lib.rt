@@ -2,19 +2,11 @@
 #![tactic(auto)]
 
 mod command;
-mod improving;
 mod laws;
 mod limits;
-mod pacing;
-mod rounds;
 mod running;
-mod times;
-mod watches;
 
-pub use laws::{
-    determined_workers_leave_the_same, done_calls_have_improved, explained_calls_have_no_plan,
-    rounds_leave_their_best, searches_are_determined,
-};
+pub use ih_optimizer::{ClockWatch, TestWatch, Watch};
+pub use laws::explained_calls_have_no_plan;
 pub use limits::limits_are_these;
 pub use running::run_planner;
-pub use watches::{ClockWatch, TestWatch, Watch};

@@ -2,11 +2,12 @@
 
 ghost use Rattle.std.specs.Prelude.{◌≡◌};
 ghost use Rattle.ih_commands.specs.Below.Searches.{MAX_KEEP, MAX_ROUNDS};
-ghost use Rattle.ih_commands.specs.declared.command.bound.TheConstants.{DEFAULT_BOUND_ROUNDS, MAX_BOUND_ROUNDS};
+ghost use Rattle.ih_optimizer.specs.declared.improving.TheConstants.{DEFAULT_BOUND_ROUNDS};
+ghost use Rattle.ih_commands.specs.declared.command.bound.TheConstants.{MAX_BOUND_ROUNDS};
 ghost use Rattle.ih_commands.specs.declared.command.improve_words.TheConstants.{DEFAULT_ROUNDS, DEFAULT_SECONDS, DEFAULT_SEED};
 ghost use Rattle.ih_commands.specs.declared.command.improve_words.TheConstants.{DEFAULT_TIMED_ROUNDS};
 ghost use Rattle.ih_commands.specs.declared.command.common.TheConstants.{DEFAULT_WORKERS};
-ghost use Rattle.ih_commands.specs.declared.pacing.TheConstants.{MAX_CALL_ATTEMPTS, MAX_CALL_ROUNDS, MAX_SECONDS};
+ghost use Rattle.ih_optimizer.specs.declared.pacing.TheConstants.{MAX_CALL_ATTEMPTS, MAX_CALL_ROUNDS, MAX_SECONDS};
 
 /// The limits of the words are these numbers, and these stand for what is left out: where a definition speaks of them by
 /// name, a changed constant would change what is promised, and not break it.

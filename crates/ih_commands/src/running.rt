@@ -6,9 +6,9 @@ ghost use Rattle.ih_commands.specs.Calls.{call_of};
 ghost use Rattle.ih_commands.specs.Ends.{HasFewPuts, IsComplete, IsUntouched, Leaves};
 
 use crate::command::{perform, read_words};
-use crate::watches::Watch;
 use ih_arguments::explaining::NoCall;
 use ih_endings::{Answer, Status, conclude, conclude_memory};
+use ih_optimizer::Watch;
 use ih_shelf::{Finds, Sink};
 use std::alloc::Global;
 use std::rt::Files;

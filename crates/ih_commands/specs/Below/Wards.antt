@@ -1,5 +1,5 @@
 -- Wards, timetables and what they cost.
-pub use Rattle.ih_tables.specs.Bills.{cost, feasible}
+pub use Rattle.ih_tables.specs.Bills.{feasible}
 pub use Rattle.ih_tables.specs.declared.drafts.Draft.{Draft}
 pub use Rattle.ih_plan.specs.BillOf.{bill_of}
 pub use Rattle.ih_plan.specs.Timetable.{IsPlanOf, Timetable}

@@ -5,7 +5,8 @@ use Rattle.ih_commands.specs.Below.Arguments.{App, IsNumberIfGiven, Row, Text, f
 use Rattle.ih_commands.specs.Below.Endings.{Done, Given, Infeasible as NotFeasible, InputFiles, OutcomeState, Status, said_files, says}
 use Rattle.ih_commands.specs.Below.Searches.{AddUp, HasGap, HoldsOfAll, IsFoundIn, IsHinted, Judged, Outcome, bound_text, judged, no_infeasibility}
 use Rattle.ih_commands.specs.declared.command.bound.Bound.{Bound}
-use Rattle.ih_commands.specs.declared.command.bound.TheConstants.{DEFAULT_BOUND_ROUNDS, MAX_BOUND_ROUNDS}
+use Rattle.ih_optimizer.specs.declared.improving.TheConstants.{DEFAULT_BOUND_ROUNDS}
+use Rattle.ih_commands.specs.declared.command.bound.TheConstants.{MAX_BOUND_ROUNDS}
 use Rattle.ih_commands.specs.declared.command.common.TheConstants.{DEFAULT_WORKERS}
 
 -- bound INSTANCE [SOLUTION] [--rounds N] [--workers N] [--prices]

@@ -1,18 +1,14 @@
 -- The command `improve`: its description for `clap`, its values and when they are lawful.
-use Rattle.std.specs.Prelude.{ℕ, ◌*◌, ◌≤◌, ◌&&◌, ◌||◌, not, nat_le, Bool, List, ◌∷◌, ◌++◌, Option, Some, None, codes, if◌then◌else◌, map, option_map, option_to_list, unwrap_or}
+use Rattle.std.specs.Prelude.{ℕ, ◌*◌, ◌≤◌, ◌&&◌, ◌||◌, not, nat_le, Bool, List, ◌∷◌, ◌++◌, Option, Some, None, codes, if◌then◌else◌, option_to_list, unwrap_or}
 use Rattle.ih_commands.specs.Below.Wards.{MAX_FREEZE, MAX_HARD, MAX_HEAT, MAX_WORKERS}
-use Rattle.ih_commands.specs.Below.Arguments.{App, IsNumberIfGiven, Row, StartCall, Text, all_differ, first_of, flag, flag_at, freezes_a_file, is_given, named, new_app, number_if_given, optional, optional_any, optional_between, optional_number, repeated, start_call, start_files, start_in, takes_a_file, text_at, texts_at, with_rule, with_start}
-use Rattle.ih_commands.specs.Below.Endings.{InputFiles, said_files}
-use Rattle.ih_commands.specs.Below.Searches.{MAX_KEEP, widest}
-use Rattle.ih_improve.specs.Settings.{IsLawful}
-use Rattle.ih_improve.specs.declared.given.Given.{Given}
-use Rattle.ih_commands.specs.Pacing.{IsLawfulPace, attempts_of}
-use Rattle.ih_commands.specs.declared.command.improve_words.Improve.{Improve}
+use Rattle.ih_commands.specs.Below.Arguments.{App, IsNumberIfGiven, Row, StartCall, all_differ, first_of, flag, flag_at, freezes_a_file, is_given, named, new_app, number_if_given, optional, optional_any, optional_between, optional_number, repeated, start_files, start_in, takes_a_file, text_at, texts_at, with_rule, with_start}
+use Rattle.ih_commands.specs.Below.Searches.{MAX_KEEP}
+use Rattle.ih_optimizer.specs.Call.{ImproveCall, IsLawfulCall}
+use Rattle.ih_optimizer.specs.Pacing.{attempts_of}
 use Rattle.ih_commands.specs.declared.command.improve_words.TheConstants.{DEFAULT_ROUNDS, DEFAULT_SECONDS, DEFAULT_SEED, DEFAULT_TIMED_ROUNDS}
-use Rattle.ih_commands.specs.declared.pacing.Length.{Length}
-use Rattle.ih_commands.specs.declared.pacing.Length.TheVariants.{Attempts, Seconds}
-use Rattle.ih_commands.specs.declared.pacing.Pace.{Pace}
-use Rattle.ih_commands.specs.declared.pacing.TheConstants.{MAX_CALL_ATTEMPTS, MAX_CALL_ROUNDS, MAX_SECONDS}
+use Rattle.ih_optimizer.specs.declared.pacing.Length.{Length}
+use Rattle.ih_optimizer.specs.declared.pacing.Length.TheVariants.{Attempts, Seconds}
+use Rattle.ih_optimizer.specs.declared.pacing.TheConstants.{MAX_CALL_ATTEMPTS, MAX_CALL_ROUNDS, MAX_SECONDS}
 
 -- improve INSTANCE OUT [--seconds N] [--attempts N] [--seed N] [--workers N]
 abbrev pub files_rules : App
@@ -41,56 +37,6 @@ improve_app = with_rule (with_rule (with_rule (with_rule (with_rule (with_rule (
     (repeated (codes "pin")))
     (flag (codes "pin-nurses")))
     (flag (codes "bound"))
-
--- what a call of improve asks for; a file's name is its bytes
-pub record ImproveCall : Type 0 where
-  pub instance : Text
-  pub out : Text
-  -- the timetable that OUT has stays where it is cheaper
-  pub keeps : Bool
-  pub pace : Pace
-  pub settings : Given
-  pub start : StartCall
-  -- the file for the timetable with the least score, where none is feasible
-  pub draft : Option Text
-  -- the ids of the patients whose stays are those of the start
-  pub pins : List Text
-  -- so are the nurses of all rooms that are occupied there
-  pub pin_nurses : Bool
-  -- it is told what no plan costs less than, and how far the best may be from that
-  pub is_bounded : Bool
-
--- the call that the values of improve stand for
-abbrev pub improve_call : Improve → ImproveCall
-improve_call i = record {
-  instance = i.instance.now;
-  out = i.out.now;
-  keeps = i.keeps;
-  pace = i.pace;
-  settings = i.settings;
-  start = start_call i.start;
-  draft = option_map (λ t. t.now) i.draft;
-  pins = map (λ t. t.now) i.pins.items;
-  pin_nurses = i.pin_nurses;
-  is_bounded = i.is_bounded;
-}
-
--- the file whose timetable stays where it is cheaper
-abbrev pub older_of : ImproveCall → Option Text
-older_of c = if c.keeps then Some c.out else None
-
--- the files that the call reads
-abbrev pub improve_inputs : ImproveCall → InputFiles
-improve_inputs c = record (said_files c.instance c.start.file) { older = older_of c }
-
--- the call as it reads: OUT has a timetable that may stay only where OUT is found
-abbrev pub reading : Bool → ImproveCall → ImproveCall
-reading found c = record c { keeps = found && c.keeps }
-
--- what it asks for is within the limits
-pub record IsLawfulCall (c : ImproveCall) : Type 0 where
-  pub settings : IsLawful (widest c.settings)
-  pub pace : IsLawfulPace c.pace
 
 -- each option is within the limits of its own: the call is lawful if all workers together make few enough attempts and
 -- the temperature doesn't rise

@@ -21,13 +21,12 @@ use ih_bound::{
 use ih_endings::Status;
 use ih_frame::Outcome;
 use ih_inputs::{InputNames, Inputs};
+use ih_optimizer::DEFAULT_BOUND_ROUNDS;
 use ih_tables::Instance;
 use std::alloc::{AllocError, Global};
 use std::sync::Wait;
 use std::thread::Threads;
 
-/// How often prices are tried at most where no number is given.
-pub const DEFAULT_BOUND_ROUNDS: u32 = 1500;
 /// No more often.
 pub const MAX_BOUND_ROUNDS: u32 = 1_000_000;
 

@@ -5,15 +5,16 @@ ghost use Rattle.std.specs.Prelude.{option_to_list, true, unwrap_or};
 ghost use Rattle.ih_commands.specs.Below.Arguments.{IsNumberIfGiven, all_differ, found_of, freezes_a_file};
 ghost use Rattle.ih_commands.specs.Below.Arguments.{number_if_given, rows_of, start_call, texts_at};
 ghost use Rattle.ih_commands.specs.Below.Searches.{MAX_KEEP};
-ghost use Rattle.ih_commands.specs.Calls.Improve.{AreOptionsWithin, HasImprove, ImproveCall, IsLawfulCall};
+ghost use Rattle.ih_commands.specs.Calls.Improve.{AreOptionsWithin, HasImprove};
+ghost use Rattle.ih_optimizer.specs.Call.{ImproveCall, IsLawfulCall};
 ghost use Rattle.ih_commands.specs.Calls.Improve.{are_names_apart, are_options_apart, are_settings_lawful};
-ghost use Rattle.ih_commands.specs.Calls.Improve.{default_rounds, filled_start_in, improve_app, improve_call};
+ghost use Rattle.ih_commands.specs.Calls.Improve.{default_rounds, filled_start_in, improve_app};
+ghost use Rattle.ih_optimizer.specs.Call.{improve_call};
 ghost use Rattle.ih_commands.specs.Calls.Improve.{improve_in, keep_in, keeps_a_file, lawful_improve, length_of};
-ghost use Rattle.ih_commands.specs.Pacing.{attempts_of};
+ghost use Rattle.ih_optimizer.specs.Pacing.{attempts_of};
 
 use crate::command::calls::Worded;
 use crate::command::common::{INSTANCE, arguments};
-use crate::pacing::{Length, MAX_CALL_ATTEMPTS, MAX_CALL_ROUNDS, MAX_SECONDS, Pace};
 use clap::ArgMatches;
 use ih_arguments::arguments::{Argument, Description, Kind};
 use ih_arguments::explaining::{NoCall, refused};
@@ -23,6 +24,7 @@ use ih_arguments::matches::{
 };
 use ih_arguments::start::{FILL, FREEZE, START, Start, freezes_a_file, start_in, takes_a_file};
 use ih_improve::{Given, MAX_KEEP};
+use ih_optimizer::{Improve, Length, MAX_CALL_ATTEMPTS, MAX_CALL_ROUNDS, MAX_SECONDS, Pace};
 use ih_plan::{MAX_FREEZE, MAX_HARD, MAX_HEAT, MAX_WORKERS};
 use std::alloc::Global;
 
@@ -34,31 +36,6 @@ pub const DEFAULT_TIMED_ROUNDS: u32 = 40;
 pub const DEFAULT_SECONDS: u32 = 60;
 /// Where the random words begin where no number is given.
 pub const DEFAULT_SEED: u64 = 1;
-
-/// `improve INSTANCE OUT` with its options.
-#[derive(Debug, Drop)]
-pub struct Improve<'a> {
-    /// The name of the instance's file.
-    pub instance: &'a str,
-    /// The name of the file that the solution goes to.
-    pub out: &'a str,
-    /// Whether the timetable that this file has stays where it is cheaper.
-    pub keeps: bool,
-    /// How long the search goes on.
-    pub pace: Pace,
-    /// The settings, of which some may be left out.
-    pub settings: Given,
-    /// What the search starts from.
-    pub start: Start<'a>,
-    /// The name of the file for the timetable with the least score, where none is feasible.
-    pub draft: Option<&'a str>,
-    /// The ids of the patients whose stays are those of the start.
-    pub pins: Vec<&'a str>,
-    /// Whether so are the nurses of all rooms that are occupied there.
-    pub pin_nurses: bool,
-    /// Whether it is told what no plan costs less than, and how far the best may be from that.
-    pub is_bounded: bool,
-}
 
 /// `improve INSTANCE OUT`, and the options, all of which may be left out.
 pub const IMPROVE: Description<'static, 'static> = Description {

@@ -5,7 +5,7 @@ use Rattle.ih_commands.specs.Below.Searches.{MAX_KEEP}
 use Rattle.ih_arguments.proofs.DescriptionRules.{takes_between, takes_number}
 use Rattle.ih_commands.specs.Calls.Improve.{HasImprove, improve_app}
 use Rattle.ih_commands.specs.Calls.Worded.{IsMatched}
-use Rattle.ih_commands.specs.declared.pacing.TheConstants.{MAX_CALL_ROUNDS, MAX_SECONDS}
+use Rattle.ih_optimizer.specs.declared.pacing.TheConstants.{MAX_CALL_ROUNDS, MAX_SECONDS}
 use Rattle.ih_commands.proofs.SettingsRead.{call-lawful}
 use Rattle.ih_commands.proofs.command.improve_words.ImproveWorded.of_matches.Goals as goal
 

@@ -1,0 +1,7 @@
+pub mod Below
+pub mod Call
+pub mod Laws
+pub mod Pacing
+pub mod Pinning
+pub mod Rounds
+pub mod Searching
