@@ -2,7 +2,7 @@
 
 ghost use Rattle.std.specs.Prelude.{◌≡◌, ◌≢◌, IfErr, IfOk, None, Some, map, string_bytes, true};
 ghost use Rattle.ih_commands.specs.Below.Arguments.{IsExplained, IsRead, app_of, is_simple_and_free};
-ghost use Rattle.ih_commands.specs.Below.Endings.{Ends, HasCause, HasShelfCause, Received, ReceivedPart};
+ghost use Rattle.ih_commands.specs.Below.Endings.{EndsOver, HasCauseOver};
 ghost use Rattle.ih_commands.specs.Calls.{HasLawfulSettings, app_for, app_named, call_named, call_of, command_call};
 ghost use Rattle.ih_commands.specs.Calls.{program_app};
 ghost use Rattle.ih_commands.specs.Ends.{CallEnds, HasFewPuts};
@@ -138,13 +138,10 @@ pub(crate) fn perform<R: Files + Print + Threads + Wait + Sync, S: Finds, O: Sin
     watch: W,
 ) -> Status
     requires { HasLawfulSettings command.now }
-    ensures ends { Ends (CallEnds (command_call command.now) (S.names shelf.old) (S.names shelf.new))
-        (HasShelfCause S.Shelf shelf.old shelf.new)
-        (Received result (O.text out.old) (O.text out.new) (O.faults out.old) (O.faults out.new))
-        (ReceivedPart (O.text out.old) (O.text out.new) (O.lacks out.old) (O.lacks out.new)) result }
+    ensures ends { EndsOver S.Shelf O.Sink shelf.old shelf.new out.old out.new
+        (CallEnds (command_call command.now)) result }
     ensures once { HasFewPuts (Some (command_call command.now)) (O.puts out.old) (O.puts out.new) }
-    ensures cause { HasCause (S.read_faults shelf.old) (S.read_faults shelf.new) (S.write_faults shelf.old)
-        (S.write_faults shelf.new) (O.faults out.old) (O.faults out.new) result }
+    ensures cause { HasCauseOver S.Shelf O.Sink shelf.old shelf.new out.old out.new result }
 {
     match command {
         Command::Improve(call) => improve(rt, alloc, call, shelf, out, watch),

@@ -1,7 +1,7 @@
 //! The one call that does all that the program does.
 
 ghost use Rattle.std.specs.Prelude.{map, string_bytes};
-ghost use Rattle.ih_commands.specs.Below.Endings.{HasCause, HasShelfCause, Received, ReceivedPart, Rose};
+ghost use Rattle.ih_commands.specs.Below.Endings.{HasCauseOver, HasReceived, HasReceivedPart, HasShelfCause, Rose};
 ghost use Rattle.ih_commands.specs.Calls.{call_of};
 ghost use Rattle.ih_commands.specs.Ends.{HasFewPuts, IsComplete, IsUntouched, Leaves};
 
@@ -28,10 +28,8 @@ pub fn run_planner<R: Files + Print + Threads + Wait + Sync, S: Finds, O: Sink, 
     // What the files then hold, and the text that was put out, by the call that the words name and the status. Where
     // the shelf or the sink does not tell what it holds, nothing is claimed of that.
     ensures leaves { Leaves (map string_bytes words.now) (call_of (map string_bytes words.now)) (S.names shelf.old)
-        (S.names shelf.new)
-        (HasShelfCause S.Shelf shelf.old shelf.new)
-        (Received result (O.text out.old) (O.text out.new) (O.faults out.old) (O.faults out.new))
-        (ReceivedPart (O.text out.old) (O.text out.new) (O.lacks out.old) (O.lacks out.new)) result }
+        (S.names shelf.new) (HasShelfCause S.Shelf shelf.old shelf.new) (HasReceived O.Sink out.old out.new result)
+        (HasReceivedPart O.Sink out.old out.new) result }
 
     // At most one text is put out, in one put; in a search one more after each round.
     ensures once { HasFewPuts (call_of (map string_bytes words.now)) (O.puts out.old) (O.puts out.new) }
@@ -40,8 +38,7 @@ pub fn run_planner<R: Files + Print + Threads + Wait + Sync, S: Finds, O: Sink, 
     ensures untouched { IsUntouched (call_of (map string_bytes words.now)) shelf.old shelf.new }
 
     // A fault is answered only where its count rose in this call, or stands at the last number of 64 bits.
-    ensures cause { HasCause (S.read_faults shelf.old) (S.read_faults shelf.new) (S.write_faults shelf.old)
-        (S.write_faults shelf.new) (O.faults out.old) (O.faults out.new) result }
+    ensures cause { HasCauseOver S.Shelf O.Sink shelf.old shelf.new out.old out.new result }
 
     // Where the shelf tells what it holds, the words are lawful, the files are as `HasFiles` says and no count rose:
     // improve ends with its best or with none, or pins nobody; view with its page, bound with what it says; or memory

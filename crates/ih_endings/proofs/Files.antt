@@ -1,5 +1,5 @@
 -- What is told of two states of a shelf.
-use Rattle.std.proofs.Common.{◌≡◌, ℕ, sym, ap, ◌∙◌, arith, refl, inl, inr, List, length, Option, Some, None}
+use Rattle.std.proofs.Common.{◌≡◌, ℕ, sym, ap, ◌∙◌, arith, inr, List, length, Option, Some, None}
 use Rattle.std.proofs.lemmas.List.{take_all}
 use Rattle.ih_shelf.specs.Outside.{Names, IfTold, PartOr, IsWritten, MayBeWritten}
 use Rattle.ih_endings.specs.Ends.{Unchanged}
@@ -29,8 +29,3 @@ pub told-same : (old new : Option Names) → new ≡ old → IfTold Unchanged ol
 told-same None new e = tt
 told-same (Some old) None e = absurd (let clash : None ≡ Some old = e in cc)
 told-same (Some old) (Some new) e = λ n. let same : new ≡ old = cc in cc
-
--- a write that was never begun
-pub nothing-written : (name bytes : List ℕ) (files : Option Names) → IfTold (MayBeWritten name bytes) files files
-nothing-written name bytes None = tt
-nothing-written name bytes (Some names) = record { part = inl refl; others = λ n other. refl }

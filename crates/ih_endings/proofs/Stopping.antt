@@ -14,7 +14,7 @@ use Rattle.ih_endings.specs.declared.status.Role.TheVariants.{Out}
 use Rattle.ih_endings.specs.declared.status.Status.{Status}
 use Rattle.ih_endings.specs.declared.status.Status.TheVariants.{Done, Usage, ReadFault, InstanceRefused, StartRefused, NoneFound, WriteFault, OutOfMemory, JournalRefused, Infeasible, TooLong}
 use Rattle.ih_endings.specs.Answers.{Answers, HasShelfCause, IsSaid, IsSaidSo}
-use Rattle.ih_endings.specs.Inputs.{EndsUnread, HasFailedRead, IsUnreadInputs, SaysRefused, SaysUnread, role_in, unread_status}
+use Rattle.ih_endings.specs.Inputs.{EndsUnread, HasFailedRead, IsUnreadInputs, SaysRemedy, SaysUnread, role_in, unread_status}
 use Rattle.ih_endings.proofs.Saying.{IsAnswerable, unsaid-by}
 
 -- ---- their statuses
@@ -75,14 +75,6 @@ module _ (files : Option Names) (r : InputFiles) where
 
   -- ---- the answer
 
-  -- an answer that was given its file's name and what helps to mend the file
-  pub refused_answer : (status : Status) (line : List ℕ) (name : List ℕ) (x : Refused) (a b : Answer) → IsSaid status line a
-      → IsSaidSo a.status (SaysRefused r.are_said name a.text.items x) b → IsSaidSo status (SaysRefused r.are_said name line x) b
-  refused_answer status line name x a b h (inl lack) = inl lack
-  refused_answer status line name x a b (inl lack) (inr (same, said)) = inl (same ∙ lack)
-  refused_answer status line name x a b (inr (is, made)) (inr (same, said)) =
-      inr (same ∙ is, subst (λ l. SaysRefused r.are_said name l x b.text.items) made said)
-
   pub unread-answerable : IsAnswerable (EndsUnread files r)
   unread-answerable = record {
     unsaid = λ status text some h. unsaid-by (EndsUnread files r) text (λ done. absurd (unread-only Done text done))
@@ -93,6 +85,14 @@ module _ (files : Option Names) (r : InputFiles) where
   pub stopped-answer : (e : InputError) (a : Answer) → IsUnread files r e → IsUnreadInputs r e a → Answers (EndsUnread files r) a
   stopped-answer e a h (inl memory) = inl (memory, unread-memory)
   stopped-answer e a h (inr (same, said)) = inr (e, same, said, h)
+
+-- an answer that was given its file's name and what helps to mend the file
+pub remedy_answer : (status : Status) (line : List ℕ) (name : List ℕ) (x : Refused) (a b : Answer) → IsSaid status line a
+    → IsSaidSo a.status (SaysRemedy name a.text.items x) b → IsSaidSo status (SaysRemedy name line x) b
+remedy_answer status line name x a b h (inl lack) = inl lack
+remedy_answer status line name x a b (inl lack) (inr (same, said)) = inl (same ∙ lack)
+remedy_answer status line name x a b (inr (is, made)) (inr (same, said)) =
+    inr (same ∙ is, subst (λ l. SaysRemedy name l x b.text.items) made said)
 
 -- ---- its cause
 

@@ -16,7 +16,7 @@ use Rattle.ih_endings.specs.declared.status.Role.TheVariants.{Instance, Journal,
 use Rattle.ih_endings.specs.declared.status.Status.{Status}
 use Rattle.ih_endings.specs.declared.status.Status.TheVariants.{ReadFault, InstanceRefused, StartRefused, OutOfMemory, TooLong}
 use Rattle.ih_endings.specs.Answers.{IsSaidSo}
-use Rattle.ih_endings.specs.Texts.{instance_refused_text, memory_text, new_instance_refused_text, older_refused_text, solution_refused_text, too_long_text, unread_text}
+use Rattle.ih_endings.specs.Texts.{memory_text, refused_text, too_long_text, unread_text}
 
 abbrev pub role_in : InputRole → Role
 role_in InstanceInput = Instance
@@ -41,19 +41,21 @@ SaysRemedy name line x text =
     (remedy : List ℕ) × IsRemedy x.bytes.items x.refusal remedy × (text ≡ name ++ codes ": " ++ line ++ remedy)
 
 -- what is said of a refused file: its line; where names are said, also its name and what helps to mend it
-abbrev pub SaysRefused : Bool → (name line : List ℕ) → Refused → List ℕ → Type 0
-SaysRefused true name line x text = SaysRemedy name line x text
-SaysRefused false name line x text = text ≡ line
+abbrev pub SaysLine : Bool → (name line : List ℕ) → Refused → List ℕ → Type 0
+SaysLine true name line x text = SaysRemedy name line x text
+SaysLine false name line x text = text ≡ line
+
+abbrev pub SaysRefused : InputFiles → InputRole → (what : List ℕ) → Refused → List ℕ → Type 0
+SaysRefused r role what x text = SaysLine r.are_said (name_in r role) (refused_text what x.refusal) x text
 
 -- what such a call says
 abbrev pub SaysUnread : InputFiles → InputError → List ℕ → Type 0
 SaysUnread r (Unreadable role) text = text ≡ unread_text (name_in r role)
 SaysUnread r (Long role) text = text ≡ too_long_text (name_in r role)
-SaysUnread r (NoInstance x) text = SaysRefused r.are_said r.instance (instance_refused_text x.refusal) x text
-SaysUnread r (NoSolution x) text =
-    SaysRefused r.are_said (name_in r SolutionInput) (solution_refused_text x.refusal) x text
-SaysUnread r (NoOlder x) text = SaysRefused r.are_said (name_in r OlderInput) (older_refused_text x.refusal) x text
-SaysUnread r (NoNext x) text = SaysRefused r.are_said (name_in r NextInput) (new_instance_refused_text x.refusal) x text
+SaysUnread r (NoInstance x) text = SaysRefused r InstanceInput (codes "instance") x text
+SaysUnread r (NoSolution x) text = SaysRefused r SolutionInput (codes "solution") x text
+SaysUnread r (NoOlder x) text = SaysRefused r OlderInput (codes "older solution") x text
+SaysUnread r (NoNext x) text = SaysRefused r NextInput (codes "new instance") x text
 SaysUnread r NoRoom text = text ≡ memory_text
 
 -- the files can't be had: the status and the text say why

@@ -16,21 +16,9 @@ unwritten_text name = codes "cannot write " ++ (name ++ codes "\n")
 abbrev pub too_long_text : List ℕ → List ℕ
 too_long_text name = codes "too long: " ++ (name ++ codes "\n")
 
--- an instance's fault, and its place
-abbrev pub instance_refused_text : Refusal → List ℕ
-instance_refused_text r = codes "instance refused: " ++ (refusal_text r ++ codes "\n")
-
--- a solution's fault, and its place
-abbrev pub solution_refused_text : Refusal → List ℕ
-solution_refused_text r = codes "solution refused: " ++ (refusal_text r ++ codes "\n")
-
--- an older solution's fault, and its place
-abbrev pub older_refused_text : Refusal → List ℕ
-older_refused_text r = codes "older solution refused: " ++ (refusal_text r ++ codes "\n")
-
--- the fault of an instance that comes next, and its place
-abbrev pub new_instance_refused_text : Refusal → List ℕ
-new_instance_refused_text r = codes "new instance refused: " ++ (refusal_text r ++ codes "\n")
+-- the fault of a file that is this, and its place
+abbrev pub refused_text : List ℕ → Refusal → List ℕ
+refused_text what r = what ++ (codes " refused: " ++ (refusal_text r ++ codes "\n"))
 
 -- no timetable was found that breaks no hard rule
 abbrev pub none_found_text : List ℕ

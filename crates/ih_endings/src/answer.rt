@@ -2,8 +2,8 @@
 
 ghost use Rattle.std.specs.Prelude.{◌≡◌, ◌≤◌, ◌⊎◌};
 ghost use Rattle.ih_endings.specs.Answers.{unsaid, IsConcluded, HasSinkCause};
-ghost use Rattle.ih_endings.specs.Texts.{memory_text, ReceivedPart};
-ghost use Rattle.ih_endings.specs.Ends.{Received};
+ghost use Rattle.ih_endings.specs.Texts.{memory_text};
+ghost use Rattle.ih_endings.specs.Ends.{HasReceived, HasReceivedPart};
 ghost use Rattle.ih_shelf.specs.Outside.{IfTold, IsOnePutAtMost};
 
 use crate::status::Status;
@@ -30,8 +30,8 @@ fn unsaid(status: Status) -> Status
 #[tactic(auto, using(crate::proofs::Puts::one_put, crate::proofs::Puts::none_put))]
 pub fn conclude_memory<R: Print, O: Sink>(rt: &R, out: &mut O) -> Status
     ensures status { result ≡ Status.OutOfMemory }
-    ensures said { Received result (O.text out.old) (O.text out.new) (O.faults out.old) (O.faults out.new) memory_text
-        ⊎ ReceivedPart (O.text out.old) (O.text out.new) (O.lacks out.old) (O.lacks out.new) memory_text }
+    ensures said { HasReceived O.Sink out.old out.new result memory_text
+        ⊎ HasReceivedPart O.Sink out.old out.new memory_text }
     ensures once { IfTold IsOnePutAtMost (O.puts out.old) (O.puts out.new) }
     ensures count { O.faults out.old ≤ O.faults out.new }
     ensures lack_count { O.lacks out.old ≤ O.lacks out.new }
@@ -46,8 +46,7 @@ pub fn conclude_memory<R: Print, O: Sink>(rt: &R, out: &mut O) -> Status
 #[tactic(auto, using(crate::proofs::Puts::one_put, crate::proofs::Puts::none_put))]
 pub fn conclude<R: Print, O: Sink>(rt: &R, out: &mut O, answer: &Answer) -> Status
     ensures said { IsConcluded answer.now.status answer.now.text.items
-        (Received result (O.text out.old) (O.text out.new) (O.faults out.old) (O.faults out.new))
-        (ReceivedPart (O.text out.old) (O.text out.new) (O.lacks out.old) (O.lacks out.new)) result }
+        (HasReceived O.Sink out.old out.new result) (HasReceivedPart O.Sink out.old out.new) result }
     ensures once { IfTold IsOnePutAtMost (O.puts out.old) (O.puts out.new) }
     ensures cause { HasSinkCause O.Sink out.old out.new answer.now.status result }
     ensures count { O.faults out.old ≤ O.faults out.new }

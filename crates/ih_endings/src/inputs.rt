@@ -2,17 +2,14 @@
 
 ghost use Rattle.std.specs.Prelude.{◌≡◌, ◌++◌, IfOk, IfErr};
 ghost use Rattle.ih_inputs.specs.Errors.{HasOnlyRead};
-ghost use Rattle.ih_inputs.specs.Reading.{ArePlans, HasGiven, files_of, given_of, name_in};
+ghost use Rattle.ih_inputs.specs.Reading.{ArePlans, HasGiven, files_of, given_of};
 ghost use Rattle.ih_remedies.specs.Remedies.{IsRemedy};
 ghost use Rattle.ih_endings.specs.Answers.{Answers, HasShelfCause, IsSaidSo};
 ghost use Rattle.ih_endings.specs.Inputs.{EndsUnread, HasFailedRead, IsUnreadInputs, SaysRefused, SaysRemedy, role_in};
 
 use crate::answer::Answer;
-use crate::status::Role;
-use crate::texts::{
-    instance_refused, new_instance_refused, older_refused, out_of_memory, solution_refused,
-    too_long, unread,
-};
+use crate::status::{Role, Status};
+use crate::texts::{out_of_memory, refused, too_long, unread};
 use ih_inputs::{InputError, InputNames, InputRole, Inputs, Refused};
 use ih_remedies::remedy;
 use ih_shelf::Shelf;
@@ -62,17 +59,18 @@ fn answer_with_remedy(alloc: Global, name: &str, answer: &Answer, file: &Refused
 }
 
 // A refused file's answer. Where names are said, it also says what helps to mend the file.
-fn refused(
+#[tactic(auto, using(crate::proofs::Stopping::remedy_answer))]
+fn answer_refused(
     alloc: Global,
     names: &InputNames<'_>,
     role: InputRole,
-    answer: Answer,
+    what: &str,
+    status: Status,
     file: &Refused,
 ) -> Answer
-    ensures { IsSaidSo answer.status
-        (SaysRefused (files_of names.now).are_said (name_in (files_of names.now) role) answer.text.items file.now)
-        result }
+    ensures { IsSaidSo status (SaysRefused (files_of names.now) role what.now file.now) result }
 {
+    let answer = refused(alloc, status, what, file.refusal);
     if names.are_said {
         answer_with_remedy(alloc, names.named(role), &answer, file)
     } else {
@@ -88,20 +86,27 @@ fn unread_inputs(alloc: Global, names: &InputNames<'_>, error: InputError) -> An
         InputError::ReadFault(role) => unread(alloc, role_in(role), names.named(role)),
         InputError::TooLong(role) => too_long(alloc, role_in(role), names.named(role)),
         InputError::InstanceRefused(file) => {
-            let answer = instance_refused(alloc, file.refusal);
-            refused(alloc, names, InputRole::Instance, answer, &file)
+            let status = Status::InstanceRefused(file.refusal);
+            answer_refused(alloc, names, InputRole::Instance, "instance", status, &file)
         }
         InputError::SolutionRefused(file) => {
-            let answer = solution_refused(alloc, file.refusal);
-            refused(alloc, names, InputRole::Solution, answer, &file)
+            let status = Status::StartRefused(file.refusal);
+            answer_refused(alloc, names, InputRole::Solution, "solution", status, &file)
         }
         InputError::OlderRefused(file) => {
-            let answer = older_refused(alloc, file.refusal);
-            refused(alloc, names, InputRole::Older, answer, &file)
+            let status = Status::StartRefused(file.refusal);
+            answer_refused(
+                alloc,
+                names,
+                InputRole::Older,
+                "older solution",
+                status,
+                &file,
+            )
         }
         InputError::NextRefused(file) => {
-            let answer = new_instance_refused(alloc, file.refusal);
-            refused(alloc, names, InputRole::Next, answer, &file)
+            let status = Status::InstanceRefused(file.refusal);
+            answer_refused(alloc, names, InputRole::Next, "new instance", status, &file)
         }
         InputError::OutOfMemory => out_of_memory(alloc),
     }

@@ -1,9 +1,7 @@
 //! The answers that say one line, and the one that memory ran out, which carries no text.
 
 ghost use Rattle.std.specs.Prelude.{◌≡◌, Some, string_bytes};
-ghost use Rattle.ih_endings.specs.Texts.{instance_refused_text, new_instance_refused_text, older_refused_text};
-ghost use Rattle.ih_endings.specs.Texts.{solution_refused_text, too_long_text, unread_text};
-ghost use Rattle.ih_endings.specs.Texts.{unwritten_text, none_found_text};
+ghost use Rattle.ih_endings.specs.Texts.{none_found_text, refused_text, too_long_text, unread_text, unwritten_text};
 ghost use Rattle.ih_endings.specs.Answers.{IsSaid, IsSaidOf, IsUnwritten};
 
 use crate::answer::Answer;
@@ -53,40 +51,13 @@ pub fn too_long(alloc: Global, role: Role, name: &str) -> Answer
     said(alloc, Status::TooLong(role), text)
 }
 
-/// The instance is refused.
+/// A file is refused that is this.
 #[tactic(auto, using(crate::proofs::Saying::said_by))]
-pub fn instance_refused(alloc: Global, refusal: Refusal) -> Answer
-    ensures { IsSaid (Status.InstanceRefused refusal) (instance_refused_text refusal) result }
+pub fn refused(alloc: Global, status: Status, what: &str, refusal: Refusal) -> Answer
+    ensures { IsSaid status (refused_text what.now refusal) result }
 {
-    let text = format!(in alloc; "instance refused: {refusal}\n");
-    said(alloc, Status::InstanceRefused(refusal), text)
-}
-
-/// A solution that the command reads is refused.
-#[tactic(auto, using(crate::proofs::Saying::said_by))]
-pub fn solution_refused(alloc: Global, refusal: Refusal) -> Answer
-    ensures { IsSaid (Status.StartRefused refusal) (solution_refused_text refusal) result }
-{
-    let text = format!(in alloc; "solution refused: {refusal}\n");
-    said(alloc, Status::StartRefused(refusal), text)
-}
-
-/// An older solution that the command compares with is refused.
-#[tactic(auto, using(crate::proofs::Saying::said_by))]
-pub fn older_refused(alloc: Global, refusal: Refusal) -> Answer
-    ensures { IsSaid (Status.StartRefused refusal) (older_refused_text refusal) result }
-{
-    let text = format!(in alloc; "older solution refused: {refusal}\n");
-    said(alloc, Status::StartRefused(refusal), text)
-}
-
-/// An instance that the command carries to is refused.
-#[tactic(auto, using(crate::proofs::Saying::said_by))]
-pub fn new_instance_refused(alloc: Global, refusal: Refusal) -> Answer
-    ensures { IsSaid (Status.InstanceRefused refusal) (new_instance_refused_text refusal) result }
-{
-    let text = format!(in alloc; "new instance refused: {refusal}\n");
-    said(alloc, Status::InstanceRefused(refusal), text)
+    let text = format!(in alloc; "{what} refused: {refusal}\n");
+    said(alloc, status, text)
 }
 
 /// No timetable was found that breaks no hard rule.

@@ -2,26 +2,20 @@
 use Rattle.std.proofs.Common.{◌≡◌, ◌∙◌, ℕ, refl, ap, inl, inr, List, [], ◌∷◌, Option, Some}
 use Rattle.std.specs.Prelude.{◌≢◌}
 use Rattle.ih_shelf.specs.declared.outside.WriteError.{WriteError}
-use Rattle.ih_shelf.specs.Outside.{IfTold, IsWritten, MayBeWritten, Names}
+use Rattle.ih_shelf.specs.Outside.{IfTold, MayBeWritten, Names}
 use Rattle.ih_endings.specs.declared.answer.Answer.{Answer}
 use Rattle.ih_endings.specs.declared.status.Status.{Status}
-use Rattle.ih_endings.specs.declared.status.Status.TheVariants.{Done, ReadFault, WriteFault, OutOfMemory, Infeasible}
-use Rattle.ih_endings.specs.Answers.{Answers, HasFileCause, IsUnwritten, unsaid}
+use Rattle.ih_endings.specs.declared.status.Status.TheVariants.{Done, WriteFault, OutOfMemory, Infeasible}
+use Rattle.ih_endings.specs.Answers.{Answers, IsUnwritten, unsaid}
 use Rattle.ih_endings.specs.Texts.{memory_text, unwritten_text}
-use Rattle.ih_endings.proofs.Files.{told-then, told-weaker}
-use Rattle.ih_endings.proofs.Saying.{IsAnswerable, answers-weaker, unsaid-by, unwritten-answer}
-use Rattle.ih_frame.specs.Outcomes.{AreBegun, AreWritten, IsLeft, IsOwnStatus, IsStatusOf, IsStopped, OutcomeState, StopsAt, WritingState}
+use Rattle.ih_endings.proofs.Files.{told-weaker}
+use Rattle.ih_endings.proofs.Saying.{IsAnswerable, unsaid-by, unwritten-answer}
+use Rattle.ih_frame.specs.Outcomes.{AreBegun, AreWritten, IsLeft, IsStatusOf, IsStopped, OutcomeState, StopsAt, WritingState}
 
 unsaid-twice : (status : Status) → unsaid (unsaid status) ≡ unsaid status
 unsaid-twice Done = refl
 unsaid-twice Infeasible = refl
 unsaid-twice status = refl
-
--- a status of the command's own needs no fault
-pub own-cause : (reads reads' writes writes' : ℕ) (status : Status) → IsOwnStatus status → HasFileCause reads reads' writes writes' status
-own-cause reads reads' writes writes' (ReadFault role) own = absurd own
-own-cause reads reads' writes writes' (WriteFault role) own = absurd own
-own-cause reads reads' writes writes' status own = tt
 
 -- ---- writes
 
@@ -46,33 +40,6 @@ stops-first w later old new part error a said =
     unwritten-answer (IsStopped (w ∷ later) old new) (stopped-answerable (w ∷ later) old new) (WriteFault (Some w.role)) (unwritten_text w.name) error a
     (w, inl refl, refl, at, refl) said
 
--- a write that came through, and one behind it that didn't
-module _ (first : WritingState) (later : List WritingState) (old mid new : Option Names) (whole : IfTold (IsWritten first.name first.bytes) old mid) where
-  later-stop : (status : Status) (text : List ℕ) → IsStopped later mid new status text → IsStopped (first ∷ later) old new status text
-  later-stop (WriteFault (Some role)) text (w, one, is, at, said) = (
-    w,
-    inr one,
-    is,
-    told-then (IsWritten first.name first.bytes) (StopsAt w later) (StopsAt w (first ∷ later)) old mid new (λ x y z h k. inr (y, h, k)) whole at,
-    said,
-  )
-  later-stop OutOfMemory text (begun, said) = (
-    told-then (IsWritten first.name first.bytes) (AreBegun later) (AreBegun (first ∷ later)) old mid new
-        (λ x y z h k. elim k [
-          | inl all ↦ inl (y, h, all)
-          | inr stop ↦ inr (stop.0, inr (y, h, stop.1))
-        ]) whole begun,
-    said,
-  )
-  later-stop status text h = absurd h
-
-  pub stops-later : (a : Answer) → Answers (IsStopped later mid new) a → Answers (IsStopped (first ∷ later) old new) a
-  stops-later a h = answers-weaker (IsStopped later mid new) (IsStopped (first ∷ later) old new) later-stop a h
-
-  pub written-then : IfTold (AreWritten later) mid new → IfTold (AreWritten (first ∷ later)) old new
-  written-then rest =
-      told-then (IsWritten first.name first.bytes) (AreWritten later) (AreWritten (first ∷ later)) old mid new (λ x y z h k. (y, h, k)) whole rest
-
 -- ---- outcomes
 
 module _ (o : OutcomeState) (old new : Option Names) where
@@ -90,6 +57,3 @@ module _ (o : OutcomeState) (old new : Option Names) where
 
   pub left-answerable : IsAnswerable (IsLeft o old new)
   left-answerable = record { unsaid = left-unsaid; memory = left-memory }
-
-  pub stopped-left : (a : Answer) → Answers (IsStopped o.writes old new) a → Answers (IsLeft o old new) a
-  stopped-left a h = answers-weaker (IsStopped o.writes old new) (IsLeft o old new) (λ status text h. inr h) a h

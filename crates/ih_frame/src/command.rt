@@ -5,9 +5,9 @@ ghost use Rattle.std.specs.Thread.{IsSync};
 ghost use Rattle.ih_inputs.specs.Reading.{ArePlans, Given, InputFiles, files_of, given_of};
 ghost use Rattle.ih_frame.specs.Outcomes.{IsOwnStatus, OutcomeState, outcome_of};
 
-use crate::outcome::Outcome;
+use crate::outcome::Made;
 use ih_inputs::{InputNames, Inputs};
-use std::alloc::{AllocError, Global};
+use std::alloc::Global;
 use std::sync::Wait;
 use std::thread::Threads;
 
@@ -16,7 +16,7 @@ use std::thread::Threads;
 pub trait Command {
     ghost files: { Self → InputFiles };
 
-    ghost is_lawful: { Self → Type 0 };
+    ghost is_lawful: { Self → Type 0 } = { λ _. Unit {0} };
 
     ghost comes_to: { Self → Given → OutcomeState → Type 0 };
 
@@ -30,7 +30,7 @@ pub trait Command {
         rt: &R,
         alloc: Global,
         inputs: Inputs,
-    ) -> Result<Outcome<'a>, AllocError>
+    ) -> Made<'a>
         requires sync { IsSync R.row }
         requires lawful { is_lawful self.now }
         requires plans { ArePlans inputs }

@@ -2,8 +2,7 @@
 
 ghost use Rattle.std.specs.Prelude.{◌≤◌, ◌+◌};
 ghost use Rattle.ih_shelf.specs.Outside.{IfTold};
-ghost use Rattle.ih_endings.specs.Answers.{HasShelfCause};
-ghost use Rattle.ih_endings.specs.{Ends.Ends, Ends.HasCause, Ends.Received, Texts.ReceivedPart};
+ghost use Rattle.ih_endings.specs.Ends.{EndsOver, HasCauseOver};
 ghost use Rattle.ih_frame.specs.Steps.{ArePutsAtMost, StepsEnds};
 
 use crate::performing::finish;
@@ -27,15 +26,10 @@ pub fn go_on<'a, R: Files + Print + Threads + Wait + Sync, P: Steps<'a>, S: Shel
 ) -> Status
     requires lawful { P.is_lawful steps.old }
     requires count { P.left steps.old ≤ count }
-    ensures ends { Ends
-        (StepsEnds (P.steps_to (P.task steps.old)) (P.ends_as (P.task steps.old)) count (P.state steps.old)
-        (S.names shelf.old) (S.names shelf.new))
-        (HasShelfCause S.Shelf shelf.old shelf.new)
-        (Received result (O.text out.old) (O.text out.new) (O.faults out.old) (O.faults out.new))
-        (ReceivedPart (O.text out.old) (O.text out.new) (O.lacks out.old) (O.lacks out.new)) result }
+    ensures ends { EndsOver S.Shelf O.Sink shelf.old shelf.new out.old out.new
+        (StepsEnds (P.steps_to (P.task steps.old)) (P.ends_as (P.task steps.old)) count (P.state steps.old)) result }
     ensures few { IfTold (ArePutsAtMost (count + 1)) (O.puts out.old) (O.puts out.new) }
-    ensures cause { HasCause (S.read_faults shelf.old) (S.read_faults shelf.new) (S.write_faults shelf.old)
-        (S.write_faults shelf.new) (O.faults out.old) (O.faults out.new) result }
+    ensures cause { HasCauseOver S.Shelf O.Sink shelf.old shelf.new out.old out.new result }
 {
     for _ in 0..count {
         if steps.is_over() {

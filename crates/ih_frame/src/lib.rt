@@ -4,6 +4,7 @@
 
 mod command;
 mod going_on;
+mod names;
 mod outcome;
 mod performing;
 mod steps;
@@ -11,6 +12,7 @@ mod writing;
 
 pub use command::Command;
 pub use going_on::go_on;
-pub use outcome::{Outcome, Writing};
+pub use names::two_names;
+pub use outcome::{Made, Outcome, Writing};
 pub use performing::{carry_out, finish, perform};
 pub use steps::Steps;

@@ -27,6 +27,9 @@ pub struct Outcome<'a> {
     pub status: Status,
 }
 
+/// What a command comes to, unless memory ran out.
+pub type Made<'a> = Result<Outcome<'a>, AllocError>;
+
 impl<'a> Outcome<'a> {
     /// Nothing is written.
     pub fn said(alloc: Global, status: Status, text: Vec<u8>) -> Outcome<'a>
@@ -47,7 +50,7 @@ impl<'a> Outcome<'a> {
         name: &'a str,
         bytes: Vec<u8>,
         text: Vec<u8>,
-    ) -> Result<Outcome<'a>, AllocError>
+    ) -> Made<'a>
         ensures outcome { IfOk result (λ o. outcome_of o ≡ writes_one role name.entry.now bytes.items text.items) }
         ensures status { IfOk result (λ o. o.status ≡ Done) }
     {

@@ -3,16 +3,16 @@
 ghost use Rattle.std.specs.Prelude.{◌≡◌, ◌≤◌, IfOk};
 ghost use Rattle.ih_shelf.specs.Outside.{IfTold, IsOnePutAtMost};
 ghost use Rattle.ih_endings.specs.Answers.{Answers, HasShelfCause};
-ghost use Rattle.ih_endings.specs.{Ends.Ends, Ends.HasCause, Ends.Received, Texts.ReceivedPart};
+ghost use Rattle.ih_endings.specs.Ends.{EndsOver, HasCauseOver};
 ghost use Rattle.ih_frame.specs.{Ends.CommandEnds, Ends.MadeEnds, Outcomes.IsLeft, Outcomes.IsOwnStatus};
 ghost use Rattle.ih_frame.specs.Outcomes.{outcome_of};
 
 use crate::command::Command;
-use crate::outcome::Outcome;
+use crate::outcome::{Made, Outcome};
 use crate::writing::write_all;
 use ih_endings::{Answer, Status, conclude, out_of_memory, read_or_answer};
 use ih_shelf::{Shelf, Sink};
-use std::alloc::{AllocError, Global};
+use std::alloc::Global;
 use std::rt::Files;
 use std::sync::Wait;
 use std::thread::Threads;
@@ -44,12 +44,7 @@ fn carry_out_whole<R: Files, S: Shelf>(
 /// Writes the files of an outcome, where it was made and memory didn't run out before. The answer says the rest of it, or
 /// which file couldn't be written. For commands that rest on a type of their caller's, as a gate is, in threads: a trait
 /// can't hand that on.
-pub fn carry_out<R: Files, S: Shelf>(
-    rt: &R,
-    alloc: Global,
-    made: Result<Outcome<'_>, AllocError>,
-    shelf: &mut S,
-) -> Answer
+pub fn carry_out<R: Files, S: Shelf>(rt: &R, alloc: Global, made: Made<'_>, shelf: &mut S) -> Answer
     requires { IfOk made (λ o. IsOwnStatus o.status) }
     ensures ends { Answers (MadeEnds made.entry (S.names shelf.old) (S.names shelf.new)) result }
     ensures cause { HasShelfCause S.Shelf shelf.old shelf.new result.status }
@@ -92,14 +87,10 @@ pub fn perform<R: Files + Print + Threads + Wait + Sync, C: Command, S: Shelf, O
     out: &mut O,
 ) -> Status
     requires { C.is_lawful command.now }
-    ensures ends { Ends
-        (CommandEnds (C.comes_to command.now) (C.files command.now) (S.names shelf.old) (S.names shelf.new))
-        (HasShelfCause S.Shelf shelf.old shelf.new)
-        (Received result (O.text out.old) (O.text out.new) (O.faults out.old) (O.faults out.new))
-        (ReceivedPart (O.text out.old) (O.text out.new) (O.lacks out.old) (O.lacks out.new)) result }
+    ensures ends { EndsOver S.Shelf O.Sink shelf.old shelf.new out.old out.new
+        (CommandEnds (C.comes_to command.now) (C.files command.now)) result }
     ensures once { IfTold IsOnePutAtMost (O.puts out.old) (O.puts out.new) }
-    ensures cause { HasCause (S.read_faults shelf.old) (S.read_faults shelf.new) (S.write_faults shelf.old)
-        (S.write_faults shelf.new) (O.faults out.old) (O.faults out.new) result }
+    ensures cause { HasCauseOver S.Shelf O.Sink shelf.old shelf.new out.old out.new result }
 {
     let answer = answer_of(rt, alloc, command, shelf);
     conclude(rt, out, &answer)
@@ -110,18 +101,14 @@ pub fn perform<R: Files + Print + Threads + Wait + Sync, C: Command, S: Shelf, O
 pub fn finish<R: Files + Print, S: Shelf, O: Sink>(
     rt: &R,
     alloc: Global,
-    made: Result<Outcome<'_>, AllocError>,
+    made: Made<'_>,
     shelf: &mut S,
     out: &mut O,
 ) -> Status
     requires { IfOk made (λ o. IsOwnStatus o.status) }
-    ensures ends { Ends (MadeEnds made.entry (S.names shelf.old) (S.names shelf.new))
-        (HasShelfCause S.Shelf shelf.old shelf.new)
-        (Received result (O.text out.old) (O.text out.new) (O.faults out.old) (O.faults out.new))
-        (ReceivedPart (O.text out.old) (O.text out.new) (O.lacks out.old) (O.lacks out.new)) result }
+    ensures ends { EndsOver S.Shelf O.Sink shelf.old shelf.new out.old out.new (MadeEnds made.entry) result }
     ensures once { IfTold IsOnePutAtMost (O.puts out.old) (O.puts out.new) }
-    ensures cause { HasCause (S.read_faults shelf.old) (S.read_faults shelf.new) (S.write_faults shelf.old)
-        (S.write_faults shelf.new) (O.faults out.old) (O.faults out.new) result }
+    ensures cause { HasCauseOver S.Shelf O.Sink shelf.old shelf.new out.old out.new result }
     ensures shelf_count { S.write_faults shelf.old ≤ S.write_faults shelf.new }
     ensures reads { S.read_faults shelf.new ≡ S.read_faults shelf.old }
     ensures count { O.faults out.old ≤ O.faults out.new }

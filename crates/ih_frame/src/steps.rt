@@ -5,8 +5,8 @@ ghost use Rattle.std.specs.Thread.{IsSync};
 ghost use Rattle.ih_endings.specs.declared.status.Status.TheVariants.{Done};
 ghost use Rattle.ih_frame.specs.Outcomes.{IsOwnStatus, OutcomeState, outcome_of};
 
-use crate::outcome::Outcome;
-use std::alloc::{AllocError, Global};
+use crate::outcome::Made;
+use std::alloc::Global;
 use std::sync::Wait;
 use std::thread::Threads;
 
@@ -39,11 +39,7 @@ pub trait Steps<'a> {
         ensures { IsTrue result ↔ (left self.now ≡ 0) };
 
     /// The next step.
-    fn step<R: Threads + Wait + Sync>(
-        &mut self,
-        rt: &R,
-        alloc: Global,
-    ) -> Result<Outcome<'a>, AllocError>
+    fn step<R: Threads + Wait + Sync>(&mut self, rt: &R, alloc: Global) -> Made<'a>
         requires sync { IsSync R.row }
         requires lawful { is_lawful self.old }
         requires left { 0 < left self.old }
@@ -55,7 +51,7 @@ pub trait Steps<'a> {
         ensures same { task self.new ≡ task self.old };
 
     /// The end, where no step is left.
-    fn end(&self, alloc: Global) -> Result<Outcome<'a>, AllocError>
+    fn end(&self, alloc: Global) -> Made<'a>
         requires lawful { is_lawful self.now }
         requires left { left self.now ≡ 0 }
         ensures ends { IfOk result (λ o. ends_as (task self.now) (state self.now) (outcome_of o)) }

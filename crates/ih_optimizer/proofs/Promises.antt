@@ -14,7 +14,7 @@ use Rattle.ih_optimizer.specs.declared.pacing.Length.{Length}
 use Rattle.ih_optimizer.specs.declared.pacing.Length.TheVariants.{Attempts, Seconds}
 use Rattle.ih_optimizer.specs.Laws.{DoneCallsHaveImproved, IsDraft, IsDrafted, IsImproved, IsInOut, NoneFoundLeavesADraft, call_terms}
 use Rattle.ih_optimizer.specs.Pinning.{unknown_patient}
-use Rattle.ih_optimizer.specs.Rounds.{IsRound, IsSearched, SearchTask, beats, changes_text, draft_writes, end_text, first_text, gap_so_far, goes_out, kept_line, round_line, stays, unfound}
+use Rattle.ih_optimizer.specs.Rounds.{IsRound, IsSearched, SearchTask, beats, best_writes, changes_text, end_text, first_text, gap_so_far, goes_out, kept_line, round_line, stays, unfound}
 use Rattle.ih_optimizer.specs.Searching.{IsSearch, task_of}
 use Rattle.ih_optimizer.proofs.RoundsTaken.{came, holds}
 
@@ -246,7 +246,7 @@ module _ (c : ImproveCall) (held : Option Timetable) (bound : Option Outcome) (o
       inside : x.instance ≡ v.instance
       inside = ap (λ (y : ImproverState). y.instance) (came Leaves task v e.taken.steps x e.taken.are)
 
-      by_draft : (draft : Option (List ℕ)) (y mid z : Names) → Unchanged y mid → AreWritten (draft_writes draft x) mid z → IsDraft draft x.instance x.kept y z
+      by_draft : (draft : Option (List ℕ)) (y mid z : Names) → Unchanged y mid → AreWritten (best_writes draft x) mid z → IsDraft draft x.instance x.kept y z
       by_draft None y mid z before k = λ n. k n ∙ before n
       by_draft (Some name) y mid z before (m, wrote, k) = record {
         whole = k name ∙ wrote.whole;
@@ -262,7 +262,7 @@ module _ (c : ImproveCall) (held : Option Timetable) (bound : Option Outcome) (o
         best = x.kept;
         infeasible = subst (λ I. feasible (bill_of I x.kept) ≡ false) inside lacks;
         written = subst (λ I. IfTold (IsDraft c.draft I x.kept) old new) inside
-            (told-then (AreAllWritten e.taken.steps) (AreWritten (draft_writes c.draft x)) (IsDraft c.draft x.instance x.kept) old e.mid new
+            (told-then (AreAllWritten e.taken.steps) (AreWritten (best_writes c.draft x)) (IsDraft c.draft x.instance x.kept) old e.mid new
             (λ y mid z h k. by_draft c.draft y mid z ((holds Leaves task v none-yet e.taken.steps x y mid e.taken.are h).none goes) k)
             e.taken.written (subst (λ (p : OutcomeState). IfTold (AreWritten p.writes) e.mid new) is_none written));
       }

@@ -7,7 +7,7 @@ use Rattle.ih_optimizer.specs.Below.Endings.{AreAllWritten, AreSteps, AreWritten
 use Rattle.ih_optimizer.specs.Below.Searches.{ImproverState, Leaves, LegState, Span, is_better_than, led_to, standing_of, terms_of}
 use Rattle.ih_improve.proofs.BetterLemmas.{better-through}
 use Rattle.ih_optimizer.specs.Laws.{RoundsLeaveTheirBest}
-use Rattle.ih_optimizer.specs.Rounds.{HoldsBest, IsRound, SearchTask, beats, best_writing, goes_out, is_new}
+use Rattle.ih_optimizer.specs.Rounds.{HoldsBest, IsRound, SearchTask, beats, best_writes, goes_out, is_new}
 
 -- what isn't the first is a later one
 later-one : (n : ℕ) (b : Bool) → (nat_eq n 0 || b) ≡ false → 0 < n
@@ -65,7 +65,7 @@ module _ (may_leave : LegState → ℕ → Timetable → Type 0) (t : SearchTask
       }
 
       by_flags : (n : Bool) → is_new u (led_to u s P) ≡ n → (b : Bool) → goes_out t (led_to u s P) ≡ b
-          → AreWritten (if n && b then best_writing t.out (led_to u s P) ∷ [] else []) mid new → HoldsBest t (led_to u s P) old new
+          → AreWritten (best_writes (if n && b then Some t.out else None) (led_to u s P)) mid new → HoldsBest t (led_to u s P) old new
       by_flags true now true goes (m, whole, same) =
           let kept : OthersKept t.out old new = λ n other. same n ∙ whole.others n other ∙ before.others n other in
           record {

@@ -1,6 +1,5 @@
 -- Rounds that determined workers make leave the same.
 use Rattle.std.proofs.Common.{◌≡◌, ◌∙◌, ℕ, sym, ap, subst, arith, List, [], ◌∷◌, length}
-use Rattle.std.specs.Prelude.{◌&&◌}
 use Rattle.ih_optimizer.specs.Below.Wards.{Timetable}
 use Rattle.ih_optimizer.specs.Below.Endings.{AreSteps, OutcomeState}
 use Rattle.ih_optimizer.specs.Below.Searches.{ImproverState, IsDetermined, Leads, LegState, Span, led_to}
@@ -8,7 +7,7 @@ use Rattle.ih_improve.proofs.Determined.{one-round}
 use Rattle.ih_frame.proofs.SameFiles.{SameWrites, files-same}
 use Rattle.ih_optimizer.specs.Laws.{AreRounds, AttemptsLeaveTheSame, DifferInNumbers, IsTheSame, RoundsLeaveTheSame}
 use Rattle.ih_optimizer.specs.Pacing.{IsNextSpan, attempts_of, share_of}
-use Rattle.ih_optimizer.specs.Rounds.{IsRound, SearchTask, best_writes, goes_out, is_new, round_text}
+use Rattle.ih_optimizer.specs.Rounds.{IsRound, SearchTask, best_writes, round_out, round_text}
 use Rattle.ih_optimizer.specs.declared.pacing.Length.{Length}
 use Rattle.ih_optimizer.specs.declared.pacing.Length.TheVariants.{Attempts}
 
@@ -40,7 +39,7 @@ module _ (may_leave : LegState → ℕ → Timetable → Type 0) (determined : I
           tt,
         );
         writes = ap (λ (q : OutcomeState). q.writes) one.comes
-            ∙ (ap (λ (y : ImproverState). best_writes t.out (is_new u y && goes_out t y) y) here ∙ sym (ap (λ (q : OutcomeState). q.writes) again.comes));
+            ∙ (ap (λ (y : ImproverState). best_writes (round_out t u y) y) here ∙ sym (ap (λ (q : OutcomeState). q.writes) again.comes));
       }
 
   -- ---- all rounds

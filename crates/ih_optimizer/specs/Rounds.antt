@@ -41,9 +41,14 @@ beats v (Some H) = is_better_than (terms_of v) v.kept H
 abbrev pub goes_out : SearchTask → ImproverState → Bool
 goes_out t v = feasible (bill_of v.instance v.kept) && beats v t.held
 
--- it is written where that holds and it is new
-abbrev pub best_writes : List ℕ → Bool → ImproverState → List WritingState
-best_writes out is_written v = if is_written then best_writing out v ∷ [] else []
+-- the best so far is written, where a file is named for it
+abbrev pub best_writes : Option (List ℕ) → ImproverState → List WritingState
+best_writes None v = []
+best_writes (Some name) v = best_writing name v ∷ []
+
+-- the file that a round from v to w writes: OUT, where the best goes there and is new
+abbrev pub round_out : SearchTask → (v w : ImproverState) → Option (List ℕ)
+round_out t v w = if is_new v w && goes_out t w then Some t.out else None
 
 -- ---- what is told
 
@@ -130,16 +135,11 @@ pub record IsRound (may_leave : LegState → ℕ → Timetable → Type 0) (t : 
   pub same : is_new v w ≡ false → w.kept ≡ v.kept
   pub numbers : RoundNumbers
   pub comes :
-      o ≡ record { writes = best_writes t.out (is_new v w && goes_out t w) w; text = round_text t.bound t.pace w numbers; status = Done }
+      o ≡ record { writes = best_writes (round_out t v w) w; text = round_text t.bound t.pace w numbers; status = Done }
 
--- the best of what was met goes to the draft, where a file is named for that
-abbrev pub draft_writes : Option (List ℕ) → ImproverState → List WritingState
-draft_writes None v = []
-draft_writes (Some name) v = best_writing name v ∷ []
-
--- none is feasible, and the draft is written
+-- none is feasible, and the best of what was met goes to the draft, where a file is named for that
 abbrev pub unfound : SearchTask → ImproverState → OutcomeState
-unfound t v = record { writes = draft_writes t.draft v; text = none_found_text; status = NoneFound }
+unfound t v = record { writes = best_writes t.draft v; text = none_found_text; status = NoneFound }
 
 -- that OUT keeps a timetable of this cost
 abbrev pub kept_line : List ℕ → Draft → Timetable → List ℕ

@@ -2,8 +2,8 @@
 
 ghost use Rattle.std.specs.Prelude.{◌≡◌, ◌+◌, ◌≤◌, IfOk, IfSome, None, map, option_map, unwrap_or};
 ghost use Rattle.ih_optimizer.specs.Below.Wards.{IsPlanOf};
-ghost use Rattle.ih_optimizer.specs.Below.Endings.{ArePlans, ArePutsAtMost, Ends, HasCause, HasShelfCause, IfTold};
-ghost use Rattle.ih_optimizer.specs.Below.Endings.{IsSaid, Received, ReceivedPart, StartRefused, files_of};
+ghost use Rattle.ih_optimizer.specs.Below.Endings.{ArePlans, ArePutsAtMost, EndsOver, HasCauseOver, IfTold, IsSaid};
+ghost use Rattle.ih_optimizer.specs.Below.Endings.{StartRefused, files_of};
 ghost use Rattle.ih_optimizer.specs.Call.{IsLawfulCall, improve_call, improve_inputs, reading};
 ghost use Rattle.ih_optimizer.specs.Pacing.{most_rounds};
 ghost use Rattle.ih_optimizer.specs.Pinning.{first_unknown, unknown_patient, unknown_text};
@@ -16,7 +16,7 @@ use crate::watches::Watch;
 use ih_bound::bound;
 use ih_endings::{Answer, Status, conclude, conclude_memory, read_or_answer, said};
 use ih_fill::fill;
-use ih_frame::go_on;
+use ih_frame::{go_on, two_names};
 use ih_improve::{Improver, Pins, Standing, is_better};
 use ih_inputs::{InputNames, Inputs};
 use ih_plan::{MAX_WORKERS, Plan};
@@ -177,16 +177,12 @@ fn names_of<'a>(call: &Improve<'a>, is_found: bool) -> InputNames<'a>
     ensures { files_of result ≡ improve_inputs (reading is_found (improve_call call.now)) }
 {
     InputNames {
-        instance: call.instance,
-        solution: call.start.file,
         older: if is_found && call.keeps {
             Some(call.out)
         } else {
             None
         },
-        journal: None,
-        next: None,
-        are_said: true,
+        ..two_names(call.instance, call.start.file, true)
     }
 }
 
@@ -203,13 +199,10 @@ pub fn improve<R: Files + Print + Threads + Wait + Sync, S: Finds, O: Sink, W: W
     mut watch: W,
 ) -> Status
     requires { IsLawfulCall (improve_call call.now) }
-    ensures ends { Ends (ImproveEnds (improve_call call.now) (S.names shelf.old) (S.names shelf.new))
-        (HasShelfCause S.Shelf shelf.old shelf.new)
-        (Received result (O.text out.old) (O.text out.new) (O.faults out.old) (O.faults out.new))
-        (ReceivedPart (O.text out.old) (O.text out.new) (O.lacks out.old) (O.lacks out.new)) result }
+    ensures ends { EndsOver S.Shelf O.Sink shelf.old shelf.new out.old out.new
+        (ImproveEnds (improve_call call.now)) result }
     ensures few { IfTold (ArePutsAtMost (most_rounds call.now.pace.length call.now.pace.rounds + 1)) (O.puts out.old) (O.puts out.new) }
-    ensures cause { HasCause (S.read_faults shelf.old) (S.read_faults shelf.new) (S.write_faults shelf.old)
-        (S.write_faults shelf.new) (O.faults out.old) (O.faults out.new) result }
+    ensures cause { HasCauseOver S.Shelf O.Sink shelf.old shelf.new out.old out.new result }
 {
     let is_found = shelf.finds(rt, call.out);
     let inputs = match read_or_answer(rt, alloc, &names_of(call, is_found), shelf) {

@@ -7,7 +7,7 @@ ghost use Rattle.ih_optimizer.specs.Below.Searches.{ImproverState, IsNoWorse, Is
 ghost use Rattle.ih_optimizer.specs.Below.Searches.{terms_of};
 ghost use Rattle.ih_optimizer.specs.Pacing.{IsLawfulPace, rounds_left};
 ghost use Rattle.ih_optimizer.specs.Rounds.{IsRound, IsSearched, SearchTask, beats, best_text, best_writes};
-ghost use Rattle.ih_optimizer.specs.Rounds.{changes_line, changes_text, cost_text, costs_line, draft_writes, end_text};
+ghost use Rattle.ih_optimizer.specs.Rounds.{changes_line, changes_text, cost_text, costs_line, end_text};
 ghost use Rattle.ih_optimizer.specs.Rounds.{first_text, gap_so_far, is_new, kept_line, number_text, round_line};
 ghost use Rattle.ih_optimizer.specs.Rounds.{round_text, searched, time_text};
 
@@ -17,7 +17,7 @@ use crate::watches::Watch;
 use ih_bound::{put_gap, put_limit};
 use ih_changes::{Changes, count_changes};
 use ih_endings::{Role, Status};
-use ih_frame::{Outcome, Steps, Writing};
+use ih_frame::{Made, Outcome, Steps, Writing};
 use ih_improve::{Improver, Span};
 use ih_plan::Plan;
 use ih_solution::write_solution;
@@ -217,45 +217,22 @@ fn goes_out(held: Option<&Plan>, improver: &Improver<'_>) -> bool
     }
 }
 
-// The write of the best timetable so far.
+// The write of the best timetable so far, where a file is named for it.
 fn best_writes<'a>(
     alloc: Global,
     inst: &Instance,
-    out: &'a str,
-    is_written: bool,
+    name: Option<&'a str>,
     improver: &Improver<'_>,
 ) -> Result<Vec<Writing<'a>>, AllocError>
     requires { improver.now.instance ≡ inst.now.draft }
-    ensures writes { IfOk result (λ ws. map writing_of ws.items ≡ best_writes out.entry.now is_written improver.now) }
+    ensures writes { IfOk result
+        (λ ws. map writing_of ws.items ≡ best_writes (option_map (λ t. t.now) name.entry) improver.now) }
     ensures sound { IsSound improver.now }
 {
     let mut writes = Vec::new(alloc);
     let plan = improver.kept();
-    if is_written {
+    if let Some(name) = name {
         let bytes = write_solution(alloc, inst, plan)?;
-        writes.push(Writing {
-            role: Role::Out,
-            name: out,
-            bytes,
-        })?;
-    }
-    Ok(writes)
-}
-
-// The write of the best timetable so far to the draft, where a file is named for that.
-fn draft_writes<'a>(
-    alloc: Global,
-    inst: &Instance,
-    draft: Option<&'a str>,
-    improver: &Improver<'_>,
-) -> Result<Vec<Writing<'a>>, AllocError>
-    requires { improver.now.instance ≡ inst.now.draft }
-    ensures { IfOk result
-        (λ ws. map writing_of ws.items ≡ draft_writes (option_map (λ t. t.now) draft.entry) improver.now) }
-{
-    let mut writes = Vec::new(alloc);
-    if let Some(name) = draft {
-        let bytes = write_solution(alloc, inst, improver.kept())?;
         writes.push(Writing {
             role: Role::Out,
             name,
@@ -364,7 +341,7 @@ fn end_text(alloc: Global, inst: &Instance, improver: &Improver<'_>) -> Result<V
 
 impl<'i, 'o, W: Watch> Search<'i, 'o, W> {
     // What is written and said once the search is over, and with which status.
-    fn searched(&self, alloc: Global) -> Result<Outcome<'o>, AllocError>
+    fn searched(&self, alloc: Global) -> Made<'o>
         requires instance { self.now.improver.instance ≡ self.now.inst.now.draft }
         requires held { IfSome self.now.held (λ h. IsPlanOf self.now.inst.now.draft h.now) }
         ensures value { IfOk result (λ o. outcome_of o ≡ searched (record {
@@ -386,7 +363,7 @@ impl<'i, 'o, W: Watch> Search<'i, 'o, W> {
                 Ok(Outcome::said(alloc, Status::Done, text))
             }
             _ => Ok(Outcome {
-                writes: draft_writes(alloc, self.inst, self.draft, &self.improver)?,
+                writes: best_writes(alloc, self.inst, self.draft, &self.improver)?,
                 text: String::from_str(alloc, "none found\n")?.into_bytes(),
                 status: Status::NoneFound,
             }),
@@ -423,17 +400,14 @@ impl<'i, 'o, W: Watch> Steps<'o> for Search<'i, 'o, W> {
             .is_over(self.times.is_over, self.improver.rounds_made())
     }
 
-    fn step<R: Threads + Wait + Sync>(
-        &mut self,
-        rt: &R,
-        alloc: Global,
-    ) -> Result<Outcome<'o>, AllocError> {
+    fn step<R: Threads + Wait + Sync>(&mut self, rt: &R, alloc: Global) -> Made<'o> {
         let span = next_span(&self.pace, &self.times, &self.improver);
         let is_new = search_on(rt, &mut self.improver, &span);
         self.times = after_round(&self.pace, &span, &self.times, &mut self.watch);
         let told = numbers_of(&self.pace, &self.times, &self.improver);
         let is_written = is_new && goes_out(self.held, &self.improver);
-        let writes = best_writes(alloc, self.inst, self.out, is_written, &self.improver)?;
+        let out = if is_written { Some(self.out) } else { None };
+        let writes = best_writes(alloc, self.inst, out, &self.improver)?;
         let text = round_text(alloc, &self.bound, &self.pace, &self.improver, &told)?;
         Ok(Outcome {
             writes,
@@ -442,7 +416,7 @@ impl<'i, 'o, W: Watch> Steps<'o> for Search<'i, 'o, W> {
         })
     }
 
-    fn end(&self, alloc: Global) -> Result<Outcome<'o>, AllocError> {
+    fn end(&self, alloc: Global) -> Made<'o> {
         self.searched(alloc)
     }
 }

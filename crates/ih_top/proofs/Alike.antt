@@ -1,11 +1,11 @@
 -- What a search with one worker makes is one thing, over the same files, and so is the place of its best. So two calls of
 -- such a search end alike, where no fault and no lack of memory ended them; and so do demos.
 use Rattle.std.proofs.Common.{◌≡◌, ◌∙◌, ℕ, refl, sym, ap, ap₂, subst, List, map, Option, Some, None, arith, inl, inr, true, false, ◌<◌, ◌≤◌, Bool, [], length}
-use Rattle.std.specs.Prelude.{Ok, slice_get, ◌≢◌, ◌⊎◌, Result, Err}
+use Rattle.std.specs.Prelude.{codes, Ok, slice_get, ◌≢◌, ◌⊎◌, Result, Err}
 use Rattle.ih_top.specs.Below.Wards.{Draft, Timetable, empty, instance, plan_in}
 use Rattle.ih_top.specs.Below.Arguments.{SolveCall}
 use Rattle.ih_top.specs.Below.Endings.{Done, EndsUnread, HasInputs, HasNoFault, HasPlan, InputFiles, Instance, InstanceRefused, IsNext, IsUnread, MAX_FILE, Names, NoneFound, OutOfMemory, SaysUnread, Solution, StartRefused, Status}
-use Rattle.ih_top.specs.Below.Endings.{TooLong, Unchanged, bytes_at, instance_refused_text, none_found_text, solution_refused_text, too_long_text, two_files, unread_status}
+use Rattle.ih_top.specs.Below.Endings.{TooLong, Unchanged, bytes_at, none_found_text, refused_text, too_long_text, two_files, unread_status}
 use Rattle.ih_top.specs.Below.Searches.{Base, ComesBefore, Entry, HaveNone, IsBestOf, IsFull, Options, Round, Tried, chain_journal, chain_tried, fill, journal, started, tried, tries}
 use Rattle.ih_journal.proofs.BestLemmas.{best-one, best-or-none}
 use Rattle.ih_journal.proofs.LoneWorkers.{lone-same}
@@ -162,7 +162,7 @@ rounds-lone count = record {
 -- of a start: too long, refused, or neither
 abbrev start-verdict : Bool → Result Timetable Refusal → List ℕ → Status × List ℕ
 start-verdict true plan name = (TooLong Solution, too_long_text name)
-start-verdict false (Err e) name = (StartRefused e, solution_refused_text e)
+start-verdict false (Err e) name = (StartRefused e, refused_text (codes "solution") e)
 start-verdict false (Ok P) name = (Done, [])
 
 -- where a start is named
@@ -173,7 +173,7 @@ next-verdict files I (Some name) = start-verdict (ltb MAX_FILE (length (bytes_at
 -- of an instance
 abbrev first-verdict : Names → InputFiles → Bool → Result Draft Refusal → Status × List ℕ
 first-verdict files r true draft = (TooLong Instance, too_long_text r.instance)
-first-verdict files r false (Err e) = (InstanceRefused e, instance_refused_text e)
+first-verdict files r false (Err e) = (InstanceRefused e, refused_text (codes "instance") e)
 first-verdict files r false (Ok I) = next-verdict files I r.solution
 
 abbrev verdict : Names → InputFiles → Status × List ℕ

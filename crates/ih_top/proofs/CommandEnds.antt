@@ -1,7 +1,7 @@
 -- What the ends of the commands have in common: at each memory may run out before anything is done.
 use Rattle.std.proofs.Common.{◌≡◌, refl, subst, inl, inr, List, ℕ, Option, Some, None}
 use Rattle.std.specs.Prelude.{◌⊎◌, Result, Ok, Err, IfOk}
-use Rattle.ih_top.specs.Below.Arguments.{Call, GenCall, advise, chain, check, demo, gen, replay, rounds, salvage, solve}
+use Rattle.ih_top.specs.Below.Arguments.{Call, GenCall, advise, check, demo, gen}
 use Rattle.ih_top.specs.Below.Endings.{Answers, Ends, IfTold, IsConcluded, IsLeft, IsSaid, MadeEnds, Names, OutOfMemory, Status, Unchanged, Usage, memory_text, outcome_of}
 use Rattle.ih_endings.specs.declared.answer.Answer.{Answer}
 use Rattle.ih_endings.proofs.Saying.{IsAnswerable, answers-weaker, beside, ended, memory-ended, said-answer, said-status, unsaid-by}
@@ -62,15 +62,11 @@ usage-ended cause received part a result why memory said concluded =
 -- ---- lack of memory before anything is done
 
 call-memory : (call : Call) (files : Option Names) → CallEnds call files files OutOfMemory memory_text
-call-memory (solve s) files = (inl (told-same files files refl), refl)
-call-memory (replay r) files = (inl (told-same files files refl), refl)
-call-memory (salvage r) files = (inl (told-same files files refl), refl)
 call-memory (check c) files = inl (told-same files files refl, unread-memory files (check_inputs c))
-call-memory (chain c) files = (inl (told-same files files refl), refl)
-call-memory (rounds r) files = (inl (told-same files files refl), refl)
 call-memory (advise a) files = inl (told-same files files refl, unread-memory files (advise_inputs a))
 call-memory (gen g) files = inl (told-same files files refl, refl, refl)
 call-memory (demo number) files = (told-same files files refl, refl)
+call-memory call files = (inl (told-same files files refl), refl)
 
 -- whatever call the words name, and also where they name none
 pub memory-leaves : (call : Option Call) (files : Option Names) (cause : Status → Type 0) (received part : List ℕ → Type 0) → cause OutOfMemory

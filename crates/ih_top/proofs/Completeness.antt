@@ -93,15 +93,9 @@ answered (gen g) files new has status text calm h = generated g (Some files) new
 answered (demo number) files new has status text calm h = shown number status text calm h.1
 
 memory-answered : (call : Call) → IsAnswered call OutOfMemory
-memory-answered (solve s) = inr (inr refl)
-memory-answered (replay r) = inr (inr refl)
-memory-answered (salvage r) = inr (inr refl)
-memory-answered (check c) = inr (inr refl)
-memory-answered (chain c) = inr (inr refl)
-memory-answered (rounds r) = inr (inr refl)
 memory-answered (advise a) = inr refl
 memory-answered (gen g) = inr refl
-memory-answered (demo number) = inr (inr refl)
+memory-answered call = inr (inr refl)
 
 pub complete : (call : Call) (old new : Option Names) (why : Status → Type 0) (received part : List ℕ → Type 0) (reads reads' writes writes' puts puts' : ℕ) (status : Status)
     → Leaves (Some call) old new why received part status → HasCause reads reads' writes writes' puts puts' status

@@ -69,8 +69,7 @@ HasFiles (check c) files = AreGiven (check_inputs c) files
 HasFiles (chain c) files = AreGiven (solve_inputs c.search) files
 HasFiles (rounds r) files = AreGiven (solve_inputs r.search) files
 HasFiles (advise a) files = AreGiven (advise_inputs a) files
-HasFiles (gen g) files = Unit {0}
-HasFiles (demo number) files = Unit {0}
+HasFiles call files = Unit {0}
 
 -- Where the words are lawful, the files are accepted and no count rose, there are two or three answers.
 abbrev pub IsComplete : Option Call → Option Names → Type 0 → Type 0 → Type 0 → Status → Type 0

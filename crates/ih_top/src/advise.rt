@@ -7,11 +7,11 @@ ghost use Rattle.ih_top.specs.Commands.{IsAdvised};
 
 use ih_advise::advice_text;
 use ih_endings::Status;
-use ih_frame::Outcome;
+use ih_frame::{Made, Outcome};
 use ih_inputs::Inputs;
 use ih_shelf::Gate;
 use ih_words::Advise;
-use std::alloc::{AllocError, Global};
+use std::alloc::Global;
 use std::sync::Wait;
 use std::thread::Threads;
 
@@ -22,7 +22,7 @@ pub fn advised<'a, R: Threads + Wait + Sync, G: Gate>(
     call: &'a Advise<'_>,
     inputs: Inputs,
     gate: &G,
-) -> Result<Outcome<'a>, AllocError>
+) -> Made<'a>
     requires lawful { IsLawfulAdvise call.now }
     requires plans { ArePlans inputs }
     ensures comes { IfOk result (λ o. IsAdvised (advise_call call.entry.now) (given_of inputs) (outcome_of o)) }

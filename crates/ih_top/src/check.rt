@@ -5,10 +5,8 @@ ghost use Rattle.ih_top.specs.Below.Arguments.{check_call};
 ghost use Rattle.ih_top.specs.Below.Endings.{IsOwnStatus};
 ghost use Rattle.ih_top.specs.{Commands.IsChecked, Commands.checked_status, Commands.check_inputs};
 
-use crate::inputs::two_names;
-use crate::outcome::Made;
 use ih_endings::Status;
-use ih_frame::{Command, Outcome};
+use ih_frame::{Command, Made, Outcome, two_names};
 use ih_inputs::{InputNames, Inputs};
 use ih_validate::{bill, report};
 use ih_words::Check;
@@ -37,12 +35,10 @@ fn checked_status(is_feasible: bool) -> Status
 impl<'c, 'w> Command for Checking<'c, 'w> {
     ghost files = { λ c. check_inputs (check_call c.call.now) };
 
-    ghost is_lawful = { λ c. Unit {0} };
-
     ghost comes_to = { λ c. IsChecked };
 
     fn names(&self) -> InputNames<'_> {
-        two_names(self.call.instance, Some(self.call.solution))
+        two_names(self.call.instance, Some(self.call.solution), false)
     }
 
     fn outcome<R: Threads + Wait + Sync>(&self, _: &R, alloc: Global, inputs: Inputs) -> Made<'_> {

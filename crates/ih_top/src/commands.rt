@@ -2,8 +2,7 @@
 
 ghost use Rattle.std.specs.Prelude.{Some};
 ghost use Rattle.ih_top.specs.Below.Arguments.{HasLawfulOptions, OutDiffers, command_call};
-ghost use Rattle.ih_top.specs.Below.Endings.{Ends, HasCause, HasShelfCause, IfTold, IsOnePutAtMost, Received};
-ghost use Rattle.ih_top.specs.Below.Endings.{ReceivedPart};
+ghost use Rattle.ih_top.specs.Below.Endings.{EndsOver, HasCauseOver, IfTold, IsOnePutAtMost};
 ghost use Rattle.ih_top.specs.{Ends.CallEnds, Ends.IsUntouched};
 
 use crate::check::Checking;
@@ -32,13 +31,10 @@ pub fn perform<R: Files + Print + Threads + Wait + Sync, S: Shelf, O: Sink, G: G
 ) -> Status
     requires differ { OutDiffers (command_call command.now) }
     requires lawful { HasLawfulOptions command.now }
-    ensures ends { Ends (CallEnds (command_call command.now) (S.names shelf.old) (S.names shelf.new))
-        (HasShelfCause S.Shelf shelf.old shelf.new)
-        (Received result (O.text out.old) (O.text out.new) (O.faults out.old) (O.faults out.new))
-        (ReceivedPart (O.text out.old) (O.text out.new) (O.lacks out.old) (O.lacks out.new)) result }
+    ensures ends { EndsOver S.Shelf O.Sink shelf.old shelf.new out.old out.new
+        (CallEnds (command_call command.now)) result }
     ensures once { IfTold IsOnePutAtMost (O.puts out.old) (O.puts out.new) }
-    ensures cause { HasCause (S.read_faults shelf.old) (S.read_faults shelf.new) (S.write_faults shelf.old)
-        (S.write_faults shelf.new) (O.faults out.old) (O.faults out.new) result }
+    ensures cause { HasCauseOver S.Shelf O.Sink shelf.old shelf.new out.old out.new result }
     ensures untouched { IsUntouched (Some (command_call command.now)) shelf.old shelf.new }
 {
     match command {

@@ -2,20 +2,18 @@
 //! they stand beside the commands that are values.
 
 ghost use Rattle.std.specs.Prelude.{◌≡◌, IfOk};
-ghost use Rattle.ih_top.specs.Below.Endings.{Answers, ArePlans, CommandEnds, Ends, HasCause, HasShelfCause, IfTold};
-ghost use Rattle.ih_top.specs.Below.Endings.{IsOnePutAtMost, IsOwnStatus, Received, ReceivedPart, files_of, given_of};
-ghost use Rattle.ih_top.specs.Below.Endings.{outcome_of};
+ghost use Rattle.ih_top.specs.Below.Endings.{Answers, ArePlans, CommandEnds, EndsOver, HasCauseOver, HasShelfCause};
+ghost use Rattle.ih_top.specs.Below.Endings.{IfTold, IsOnePutAtMost, IsOwnStatus, files_of, given_of, outcome_of};
 ghost use Rattle.ih_top.specs.Methods.{IsLawfulGated, comes_to, gated_inputs};
 
 use crate::advise::advised;
-use crate::inputs::two_names;
 use crate::searching::{Method, searched};
 use ih_endings::{Answer, Status, conclude, read_or_answer};
-use ih_frame::{Outcome, carry_out};
+use ih_frame::{Made, carry_out, two_names};
 use ih_inputs::{InputNames, Inputs};
 use ih_shelf::{Gate, Shelf, Sink};
 use ih_words::{Advise, Solve};
-use std::alloc::{AllocError, Global};
+use std::alloc::Global;
 use std::rt::Files;
 use std::sync::Wait;
 use std::thread::Threads;
@@ -32,8 +30,8 @@ fn names_of<'w>(call: Gated<'_, 'w>) -> InputNames<'w>
     ensures { files_of result ≡ gated_inputs call.entry }
 {
     match call {
-        Gated::Search(_, solve) => two_names(solve.instance, solve.start.file),
-        Gated::Advise(advise) => two_names(advise.instance, Some(advise.solution)),
+        Gated::Search(_, solve) => two_names(solve.instance, solve.start.file, false),
+        Gated::Advise(advise) => two_names(advise.instance, Some(advise.solution), false),
     }
 }
 
@@ -44,7 +42,7 @@ fn outcome_by<'c, R: Threads + Wait + Sync, G: Gate>(
     call: Gated<'c, '_>,
     inputs: Inputs,
     gate: &G,
-) -> Result<Outcome<'c>, AllocError>
+) -> Made<'c>
     requires lawful { IsLawfulGated call }
     requires plans { ArePlans inputs }
     ensures comes { IfOk result (λ o. comes_to call.entry (given_of inputs) (outcome_of o)) }
@@ -88,14 +86,10 @@ pub fn perform_gated<R: Files + Print + Threads + Wait + Sync, S: Shelf, O: Sink
     gate: &G,
 ) -> Status
     requires { IsLawfulGated call }
-    ensures ends { Ends
-        (CommandEnds (comes_to call.entry) (gated_inputs call.entry) (S.names shelf.old) (S.names shelf.new))
-        (HasShelfCause S.Shelf shelf.old shelf.new)
-        (Received result (O.text out.old) (O.text out.new) (O.faults out.old) (O.faults out.new))
-        (ReceivedPart (O.text out.old) (O.text out.new) (O.lacks out.old) (O.lacks out.new)) result }
+    ensures ends { EndsOver S.Shelf O.Sink shelf.old shelf.new out.old out.new
+        (CommandEnds (comes_to call.entry) (gated_inputs call.entry)) result }
     ensures once { IfTold IsOnePutAtMost (O.puts out.old) (O.puts out.new) }
-    ensures cause { HasCause (S.read_faults shelf.old) (S.read_faults shelf.new) (S.write_faults shelf.old)
-        (S.write_faults shelf.new) (O.faults out.old) (O.faults out.new) result }
+    ensures cause { HasCauseOver S.Shelf O.Sink shelf.old shelf.new out.old out.new result }
 {
     let answer = answer_of(rt, alloc, call, shelf, gate);
     conclude(rt, out, &answer)

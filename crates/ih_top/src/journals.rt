@@ -7,13 +7,12 @@ ghost use Rattle.ih_top.specs.Below.Searches.{IsBase, base_given};
 ghost use Rattle.ih_top.specs.{Commands.replay_inputs, JournalFiles.read_from};
 ghost use Rattle.ih_top.specs.JournalUses.{IsJournalUse, IsLinesFor, IsOutcomeFor};
 
-use crate::inputs::two_names;
 use crate::journal_heading::heading_of;
-use crate::outcome::{JournalOutcome, Made, headless, journal_outcome};
+use crate::outcome::{JournalOutcome, headless, journal_outcome};
 use crate::replay::replay_lines;
 use crate::salvage::salvage_lines;
 use ih_desk::Given;
-use ih_frame::Command;
+use ih_frame::{Command, Made, two_names};
 use ih_inputs::{InputNames, Inputs};
 use ih_parfill::search_start;
 use ih_words::{Replay, Start};
@@ -95,14 +94,12 @@ fn bytes_of(alloc: Global, journal: Option<Vec<u8>>) -> Vec<u8>
 impl<'c, 'w> Command for Taking<'c, 'w> {
     ghost files = { λ t. replay_inputs (replay_call t.call.now) };
 
-    ghost is_lawful = { λ t. Unit {0} };
-
     ghost comes_to = { λ t. IsJournalUse t.journal_use (replay_call t.call.now) };
 
     fn names(&self) -> InputNames<'_> {
         InputNames {
             journal: Some(self.call.journal),
-            ..two_names(self.call.instance, self.call.start.file)
+            ..two_names(self.call.instance, self.call.start.file, false)
         }
     }
 

@@ -8,7 +8,6 @@ mod commands;
 mod demo;
 mod gated;
 mod generate;
-mod inputs;
 mod journal_heading;
 mod journal_lines;
 mod journals;

@@ -7,12 +7,9 @@ ghost use Rattle.ih_top.specs.Outputs.{journal_outcome};
 use crate::output::BestOutput;
 use crate::texts::{journal_refused_text, none_found_text};
 use ih_endings::{Role, Status};
-use ih_frame::Outcome;
+use ih_frame::{Made, Outcome};
 use ih_journal::{JournalRefusal, Reason};
-use std::alloc::{AllocError, Global};
-
-/// What a command comes to, unless memory ran out.
-pub type Made<'a> = Result<Outcome<'a>, AllocError>;
+use std::alloc::Global;
 
 /// What a journal comes to.
 #[derive(Drop)]
@@ -34,11 +31,7 @@ pub fn headless() -> JournalOutcome
 }
 
 /// The solution of the best is written, where there is one.
-pub fn journal_outcome<'a>(
-    alloc: Global,
-    out: &'a str,
-    found: JournalOutcome,
-) -> Result<Outcome<'a>, AllocError>
+pub fn journal_outcome<'a>(alloc: Global, out: &'a str, found: JournalOutcome) -> Made<'a>
     ensures outcome { IfOk result (λ o. outcome_of o ≡ journal_outcome out.entry.now found) }
     ensures own { IfOk result (λ o. IsOwnStatus o.status) }
 {

@@ -2,8 +2,8 @@
 
 ghost use Rattle.std.specs.Prelude.{map, string_bytes};
 ghost use Rattle.ih_top.specs.Below.Arguments.{call_of};
-ghost use Rattle.ih_top.specs.Below.Endings.{HasCause, HasShelfCause, IfTold, IsOnePutAtMost, Received, ReceivedPart};
-ghost use Rattle.ih_top.specs.Below.Endings.{Rose};
+ghost use Rattle.ih_top.specs.Below.Endings.{HasCauseOver, HasReceived, HasReceivedPart, HasShelfCause, IfTold};
+ghost use Rattle.ih_top.specs.Below.Endings.{IsOnePutAtMost, Rose};
 ghost use Rattle.ih_top.specs.Ends.{IsComplete, IsUntouched, Leaves};
 
 use crate::commands::perform;
@@ -31,9 +31,8 @@ pub fn run<R: Files + Print + Threads + Wait + Sync, S: Shelf, O: Sink, G: Gate>
     // What the files then hold, and the text that was put out, by the call that the words name and the status. Where
     // the shelf or the sink does not tell what it holds, nothing is claimed of that.
     ensures leaves { Leaves (call_of (map string_bytes words.now)) (S.names shelf.old) (S.names shelf.new)
-        (HasShelfCause S.Shelf shelf.old shelf.new)
-        (Received result (O.text out.old) (O.text out.new) (O.faults out.old) (O.faults out.new))
-        (ReceivedPart (O.text out.old) (O.text out.new) (O.lacks out.old) (O.lacks out.new)) result }
+        (HasShelfCause S.Shelf shelf.old shelf.new) (HasReceived O.Sink out.old out.new result)
+        (HasReceivedPart O.Sink out.old out.new) result }
 
     // At most one text is put out, in one put.
     ensures once { IfTold IsOnePutAtMost (O.puts out.old) (O.puts out.new) }
@@ -42,8 +41,7 @@ pub fn run<R: Files + Print + Threads + Wait + Sync, S: Shelf, O: Sink, G: Gate>
     ensures untouched { IsUntouched (call_of (map string_bytes words.now)) shelf.old shelf.new }
 
     // A fault is answered only where its count rose in this call, or stands at the last number of 64 bits.
-    ensures cause { HasCause (S.read_faults shelf.old) (S.read_faults shelf.new) (S.write_faults shelf.old)
-        (S.write_faults shelf.new) (O.faults out.old) (O.faults out.new) result }
+    ensures cause { HasCauseOver S.Shelf O.Sink shelf.old shelf.new out.old out.new result }
 
     // Where the shelf tells what it holds, the words are lawful, the files are as `HasFiles` says and no count rose: a
     // search, a demo, a replay or a salvage ends with its best or with none, a check with its report, an advise with

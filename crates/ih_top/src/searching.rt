@@ -15,7 +15,7 @@ use crate::solve::make_output;
 use crate::writer::search_outcome;
 use ih_chain::run_chains;
 use ih_desk::Given;
-use ih_frame::Outcome;
+use ih_frame::Made;
 use ih_inputs::Inputs;
 use ih_journal::Options;
 use ih_parfill::search_start;
@@ -94,7 +94,7 @@ pub fn searched<'a, R: Threads + Wait + Sync, G: Gate>(
     call: &'a Solve<'_>,
     inputs: Inputs,
     gate: &G,
-) -> Result<Outcome<'a>, AllocError>
+) -> Made<'a>
     requires lawful { IsLawful call.now.options }
     requires method { IsLawfulFor method call.now.options call.now.start.freeze }
     requires plans { ArePlans inputs }

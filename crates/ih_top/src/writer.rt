@@ -8,16 +8,12 @@ ghost use Rattle.ih_top.specs.Outputs.{search_outcome};
 use crate::output::Output;
 use crate::texts::none_found_text;
 use ih_endings::{Role, Status};
-use ih_frame::{Outcome, Writing};
+use ih_frame::{Made, Outcome, Writing};
 use ih_words::Solve;
-use std::alloc::{AllocError, Global};
+use std::alloc::Global;
 
 /// The journal is written, then the solution of the best where there is one.
-pub fn search_outcome<'a>(
-    alloc: Global,
-    call: &'a Solve<'_>,
-    output: Output,
-) -> Result<Outcome<'a>, AllocError>
+pub fn search_outcome<'a>(alloc: Global, call: &'a Solve<'_>, output: Output) -> Made<'a>
     ensures outcome { IfOk result
         (λ o. outcome_of o ≡ search_outcome (solve_call call.entry.now) output.journal.items output.best) }
     ensures own { IfOk result (λ o. IsOwnStatus o.status) }

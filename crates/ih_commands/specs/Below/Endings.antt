@@ -2,7 +2,7 @@
 pub use Rattle.ih_shelf.specs.Outside.{IfTold, IsOnePutAtMost, Names, Rose, is_there}
 pub use Rattle.ih_inputs.specs.Reading.{Given, HasGiven, InputFiles, files_of, given_of, said_files}
 pub use Rattle.ih_endings.specs.Answers.{HasShelfCause, unsaid}
-pub use Rattle.ih_endings.specs.Ends.{Ends, HasCause, Received, Unchanged}
+pub use Rattle.ih_endings.specs.Ends.{Ends, EndsOver, HasCause, HasCauseOver, HasReceived, HasReceivedPart, Received, Unchanged}
 pub use Rattle.ih_endings.specs.Texts.{ReceivedPart, memory_text}
 pub use Rattle.ih_endings.specs.declared.answer.Answer.{Answer}
 pub use Rattle.ih_endings.specs.declared.status.Role.TheVariants.{Out}

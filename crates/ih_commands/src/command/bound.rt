@@ -10,7 +10,7 @@ ghost use Rattle.ih_commands.specs.Calls.Bound.{bound_call, bound_in, bound_inpu
 ghost use Rattle.ih_commands.specs.Calls.Bound.{lawful_bound};
 
 use crate::command::calls::Worded;
-use crate::command::common::{DEFAULT_WORKERS, INSTANCE, Made, WORKERS, arguments, said_names};
+use crate::command::common::{DEFAULT_WORKERS, INSTANCE, WORKERS, arguments};
 use clap::ArgMatches;
 use ih_arguments::arguments::{Argument, Description, Kind};
 use ih_arguments::explaining::NoCall;
@@ -19,7 +19,7 @@ use ih_bound::{
     Judged, Priced, bound_text, bound_with_prices, hints_text, judge, no_infeasibility,
 };
 use ih_endings::Status;
-use ih_frame::Outcome;
+use ih_frame::{Made, Outcome, two_names};
 use ih_inputs::{InputNames, Inputs};
 use ih_optimizer::DEFAULT_BOUND_ROUNDS;
 use ih_tables::Instance;
@@ -148,7 +148,7 @@ impl<'b> ih_frame::Command for Bound<'b> {
     ghost comes_to = { λ b. IsBounded (bound_call b) };
 
     fn names(&self) -> InputNames<'_> {
-        said_names(self.instance, self.solution)
+        two_names(self.instance, self.solution, true)
     }
 
     fn outcome<R: Threads + Wait + Sync>(&self, rt: &R, alloc: Global, inputs: Inputs) -> Made<'_> {

@@ -8,7 +8,7 @@ ghost use Rattle.ih_commands.specs.Calls.Carry.{CarryCall, IsCarriedOver, carry_
 ghost use Rattle.ih_commands.specs.Calls.Carry.{carry_inputs, lawful_carry, next_ward};
 
 use crate::command::calls::Worded;
-use crate::command::common::{Made, arguments, equal_names, said_names};
+use crate::command::common::{arguments, equal_names};
 use clap::ArgMatches;
 use ih_arguments::arguments::{Argument, Description, Kind};
 use ih_arguments::explaining::NoCall;
@@ -16,7 +16,7 @@ use ih_arguments::file_names::names_differ;
 use ih_arguments::matches::{optional_u32_of, text_of};
 use ih_carry::{Handover, account, carry};
 use ih_endings::Role;
-use ih_frame::Outcome;
+use ih_frame::{Made, Outcome, two_names};
 use ih_inputs::{InputNames, Inputs};
 use ih_plan::MAX_FREEZE;
 use ih_solution::write_solution;
@@ -104,14 +104,12 @@ fn next_ward(inputs: &Inputs) -> &Instance
 impl<'c> ih_frame::Command for Carry<'c> {
     ghost files = { λ c. carry_inputs (carry_call c) };
 
-    ghost is_lawful = { λ c. Unit {0} };
-
     ghost comes_to = { λ c. IsCarriedOver (carry_call c) };
 
     fn names(&self) -> InputNames<'_> {
         InputNames {
             next: Some(self.next),
-            ..said_names(self.ward, Some(self.plan))
+            ..two_names(self.ward, Some(self.plan), true)
         }
     }
 

@@ -5,12 +5,12 @@ ghost use Rattle.ih_commands.specs.Calls.Check.{lawful_check};
 
 use crate::command::bound::judged_status;
 use crate::command::calls::Worded;
-use crate::command::common::{INSTANCE, Made, SOLUTION, said_names};
+use crate::command::common::{INSTANCE, SOLUTION};
 use clap::ArgMatches;
 use ih_arguments::arguments::Description;
 use ih_arguments::explaining::NoCall;
 use ih_arguments::matches::text_of;
-use ih_frame::Outcome;
+use ih_frame::{Made, Outcome, two_names};
 use ih_inputs::{InputNames, Inputs};
 use ih_validate::{bill, report};
 use std::alloc::Global;
@@ -50,12 +50,10 @@ impl<'a> Worded<'a> for Check<'a> {
 impl<'c> ih_frame::Command for Check<'c> {
     ghost files = { λ c. check_inputs (check_call c) };
 
-    ghost is_lawful = { λ c. Unit {0} };
-
     ghost comes_to = { λ c. IsChecked };
 
     fn names(&self) -> InputNames<'_> {
-        said_names(self.instance, Some(self.solution))
+        two_names(self.instance, Some(self.solution), true)
     }
 
     fn outcome<R: Threads + Wait + Sync>(&self, _: &R, alloc: Global, inputs: Inputs) -> Made<'_> {

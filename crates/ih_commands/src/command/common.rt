@@ -1,19 +1,12 @@
-//! The arguments and the files that several commands have, and what is said of several.
+//! The arguments that several commands have, and what is said of several.
 
-ghost use Rattle.std.specs.Prelude.{◌≡◌, option_map};
 ghost use Rattle.ih_commands.specs.Below.Arguments.{IsNoHelp};
-ghost use Rattle.ih_commands.specs.Below.Endings.{files_of, said_files};
 
 use ih_arguments::argument;
 use ih_arguments::arguments::{Argument, Kind};
 use ih_arguments::explaining::{NoCall, refused};
-use ih_frame::Outcome;
-use ih_inputs::InputNames;
 use ih_plan::MAX_WORKERS;
-use std::alloc::{AllocError, Global};
-
-/// What a command comes to, unless memory ran out.
-pub type Made<'a> = Result<Outcome<'a>, AllocError>;
+use std::alloc::Global;
 
 // The table of a command's arguments, in order. A row is an argument that several commands have, or an id with its kind
 // and what the help says of it.
@@ -59,18 +52,4 @@ pub fn equal_names(alloc: Global) -> NoCall
     ensures { IsNoHelp result }
 {
     refused(alloc, "two files of the call have one name")
-}
-
-/// The names of the files of a call that reads an instance and, where one is named, a solution.
-pub fn said_names<'n>(instance: &'n str, solution: Option<&'n str>) -> InputNames<'n>
-    ensures { files_of result ≡ said_files instance.entry.now (option_map (λ t. t.now) solution.entry) }
-{
-    InputNames {
-        instance,
-        solution,
-        older: None,
-        journal: None,
-        next: None,
-        are_said: true,
-    }
 }

@@ -7,7 +7,7 @@ ghost use Rattle.ih_commands.specs.Calls.Table.{needs_dates, subject_at, subject
 ghost use Rattle.ih_commands.specs.Calls.Table.{table_in, table_inputs};
 
 use crate::command::calls::Worded;
-use crate::command::common::{INSTANCE, Made, SOLUTION, arguments, equal_names, said_names};
+use crate::command::common::{INSTANCE, SOLUTION, arguments, equal_names};
 use crate::command::days::{FROM, first_day, no_day, refused_day};
 use clap::ArgMatches;
 use ih_arguments::arguments::{Argument, Description, Kind};
@@ -15,7 +15,7 @@ use ih_arguments::explaining::{NoCall, refused};
 use ih_arguments::file_names::names_differ;
 use ih_arguments::matches::{optional_text_of, text_of};
 use ih_endings::Role;
-use ih_frame::Outcome;
+use ih_frame::{Made, Outcome, two_names};
 use ih_inputs::{InputNames, Inputs};
 use ih_sheet::{Subject, table};
 use jiff::civil::Date;
@@ -164,12 +164,10 @@ impl<'a> Worded<'a> for Table<'a> {
 impl<'t> ih_frame::Command for Table<'t> {
     ghost files = { λ t. table_inputs (table_call t) };
 
-    ghost is_lawful = { λ t. Unit {0} };
-
     ghost comes_to = { λ t. IsTabled (table_call t) };
 
     fn names(&self) -> InputNames<'_> {
-        said_names(self.instance, Some(self.solution))
+        two_names(self.instance, Some(self.solution), true)
     }
 
     fn outcome<R: Threads + Wait + Sync>(&self, _: &R, alloc: Global, inputs: Inputs) -> Made<'_> {

@@ -7,7 +7,7 @@ ghost use Rattle.ih_commands.specs.Calls.View.{IsViewed, ViewCall, heading_of, l
 ghost use Rattle.ih_commands.specs.Calls.View.{view_files, view_in, view_inputs};
 
 use crate::command::calls::Worded;
-use crate::command::common::{INSTANCE, Made, SOLUTION, arguments, equal_names, said_names};
+use crate::command::common::{INSTANCE, SOLUTION, arguments, equal_names};
 use crate::command::days::{FROM, first_day, no_day, refused_day};
 use clap::ArgMatches;
 use ih_arguments::arguments::{Argument, Description, Kind};
@@ -15,7 +15,7 @@ use ih_arguments::explaining::NoCall;
 use ih_arguments::file_names::names_differ;
 use ih_arguments::matches::{optional_text_of, text_of};
 use ih_endings::Role;
-use ih_frame::Outcome;
+use ih_frame::{Made, Outcome, two_names};
 use ih_inputs::{InputNames, Inputs};
 use ih_page::{Heading, page};
 use jiff::civil::Date;
@@ -111,14 +111,12 @@ impl<'a> Worded<'a> for View<'a> {
 impl<'v> ih_frame::Command for View<'v> {
     ghost files = { λ v. view_inputs (view_call v) };
 
-    ghost is_lawful = { λ v. Unit {0} };
-
     ghost comes_to = { λ v. IsViewed (view_call v) };
 
     fn names(&self) -> InputNames<'_> {
         InputNames {
             older: self.since,
-            ..said_names(self.instance, Some(self.solution))
+            ..two_names(self.instance, Some(self.solution), true)
         }
     }
 

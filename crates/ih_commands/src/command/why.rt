@@ -9,12 +9,12 @@ ghost use Rattle.ih_commands.specs.Calls.Why.{why_inputs, why_text};
 
 use crate::command::bound::judged_status;
 use crate::command::calls::Worded;
-use crate::command::common::{DEFAULT_WORKERS, INSTANCE, Made, WORKERS, arguments, said_names};
+use crate::command::common::{DEFAULT_WORKERS, INSTANCE, WORKERS, arguments};
 use clap::ArgMatches;
 use ih_arguments::arguments::{Argument, Description, Kind};
 use ih_arguments::explaining::NoCall;
 use ih_arguments::matches::{number_if_given, optional_text_of, text_of};
-use ih_frame::Outcome;
+use ih_frame::{Made, Outcome, two_names};
 use ih_inputs::{InputNames, Inputs};
 use ih_mends::mends;
 use ih_plan::Plan;
@@ -162,7 +162,7 @@ impl<'w> ih_frame::Command for Why<'w> {
     ghost comes_to = { λ w. IsExplained (why_call w) };
 
     fn names(&self) -> InputNames<'_> {
-        said_names(self.instance, self.solution)
+        two_names(self.instance, self.solution, true)
     }
 
     fn outcome<R: Threads + Wait + Sync>(&self, rt: &R, alloc: Global, inputs: Inputs) -> Made<'_> {

@@ -3,9 +3,9 @@ pub use Rattle.ih_shelf.specs.Outside.{IfTold, IsOnePutAtMost, IsWritten, MayBeW
 pub use Rattle.ih_inputs.specs.Reading.{ArePlans, Given, HasBytes, HasGiven, HasInputs, HasInstance, HasJournal, HasPlan, InputFiles, IsNext, IsUnread, files_of, given_of, two_files}
 pub use Rattle.ih_inputs.specs.declared.reading.TheConstants.{MAX_FILE, MAX_JOURNAL}
 pub use Rattle.ih_endings.specs.Answers.{Answers, HasFileCause, HasShelfCause, IsConcluded, IsSaid, unsaid}
-pub use Rattle.ih_endings.specs.Ends.{Ends, HasCause, Received, Unchanged}
+pub use Rattle.ih_endings.specs.Ends.{Ends, EndsOver, HasCause, HasCauseOver, HasReceived, HasReceivedPart, Received, Unchanged}
 pub use Rattle.ih_endings.specs.Inputs.{EndsUnread, SaysUnread, unread_status}
-pub use Rattle.ih_endings.specs.Texts.{ReceivedPart, instance_refused_text, memory_text, none_found_text, solution_refused_text, too_long_text, unwritten_text}
+pub use Rattle.ih_endings.specs.Texts.{ReceivedPart, memory_text, none_found_text, refused_text, too_long_text, unwritten_text}
 pub use Rattle.ih_endings.specs.declared.status.Role.TheVariants.{Instance, Journal, Out, Solution}
 pub use Rattle.ih_endings.specs.declared.status.Status.{Status}
 pub use Rattle.ih_endings.specs.declared.status.Status.TheVariants.{Done, Infeasible, InstanceRefused, JournalRefused, NoneFound, OutOfMemory, ReadFault, StartRefused, TooLong, Usage, WriteFault}
