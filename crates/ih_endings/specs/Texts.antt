@@ -16,7 +16,7 @@ unwritten_text name = codes "cannot write " ++ (name ++ codes "\n")
 abbrev pub too_long_text : List ℕ → List ℕ
 too_long_text name = codes "too long: " ++ (name ++ codes "\n")
 
--- the fault of a file that is this, and its place
+-- the fault of the file that `what` names, and its place
 abbrev pub refused_text : List ℕ → Refusal → List ℕ
 refused_text what r = what ++ (codes " refused: " ++ (refusal_text r ++ codes "\n"))
 

@@ -51,7 +51,7 @@ pub fn too_long(alloc: Global, role: Role, name: &str) -> Answer
     said(alloc, Status::TooLong(role), text)
 }
 
-/// A file is refused that is this.
+/// The file that `what` names is refused.
 #[tactic(auto, using(crate::proofs::Saying::said_by))]
 pub fn refused(alloc: Global, status: Status, what: &str, refusal: Refusal) -> Answer
     ensures { IsSaid status (refused_text what.now refusal) result }
