@@ -125,6 +125,15 @@ fn put_lines(
     Ok(())
 }
 
+// What prices admissions to a plan.
+fn scorer_of<'a>(alloc: Global, inst: &'a Instance, plan: &Plan) -> Result<Scorer<'a>, AllocError>
+    requires { IsPlanOf inst.now.draft plan.now }
+    ensures fit { IfOk result (IsForAdmissions inst.now.draft) }
+    ensures plan { IfOk result (λ s. s.plan ≡ plan.now) }
+{
+    Scorer::new(alloc, inst, MAX_HARD, true, plan)
+}
+
 /// Who waits: a line for each patient whom the plan leaves out, the mandatory ones first, each by number. It says on
 /// which day the patient could come, and to which room and theatre: of all stays that the patient may get the first of
 /// least score, where a broken rule weighs most. If that breaks no rule more than the plan does, it says what is added
@@ -134,7 +143,7 @@ pub fn who_waits(alloc: Global, inst: &Instance, plan: &Plan) -> Result<Vec<u8>,
     requires { IsPlanOf inst.now.draft plan.now }
     ensures { IfOk result (λ text. text.items ≡ waiting_text inst.now.draft plan.now) }
 {
-    let scorer = Scorer::new(alloc, inst, MAX_HARD, true, plan)?;
+    let scorer = scorer_of(alloc, inst, plan)?;
     let mut out = String::new(alloc);
     put_lines(alloc, &mut out, inst, &scorer, true)?;
     put_lines(alloc, &mut out, inst, &scorer, false)?;
